@@ -1,0 +1,55 @@
+ghost use Rattle.std.specs.Prelude.{◌≡◌};
+
+use sl_defs::Bytes;
+use std::marker::Model;
+
+/// Bytes to be written from an offset on.
+#[derive(Drop, Debug)]
+pub struct Write {
+    pub offset: u64,
+    pub bytes: Bytes,
+}
+
+/// A list of writes, which contracts see as that list.
+#[derive(Drop, Debug)]
+pub struct Writes {
+    items: Vec<Write>,
+}
+
+impl Model for Writes {
+    ghost use Rattle.std.specs.Prelude.{List};
+    ghost use Rattle.sl_types.specs.declared.writes.Write.{Write};
+
+    ghost Value = { List Write };
+
+    ghost view = { λ w. w.items.items };
+}
+
+impl Writes {
+    /// The list of these writes, which are not copied.
+    pub fn new(items: Vec<Write>) -> Writes
+        ensures { result ≡ items.items }
+    {
+        Writes { items }
+    }
+
+    /// The writes, in order.
+    pub fn as_slice(&self) -> &[Write]
+        ensures { result.now ≡ self.now }
+    {
+        self.items.as_slice()
+    }
+}
+
+/// A set of actors: bit a stands for actor a.
+#[derive(Clone, Copy, Debug, PartialEq, Eq)]
+pub struct ActorSet(pub u64);
+
+/// Which event's answer a reply is: that in which the given frame was sent, this one, or that in which the call
+/// took effect.
+#[derive(Clone, Copy, Debug, PartialEq, Eq)]
+pub enum Mark {
+    Given,
+    Now,
+    Done,
+}
