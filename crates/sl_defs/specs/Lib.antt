@@ -1,2 +1,5 @@
 pub mod Items
 pub mod Rpc
+pub mod Schedules
+pub mod Transcripts
+pub mod Histories
