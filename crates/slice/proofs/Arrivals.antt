@@ -55,7 +55,7 @@ reply_arrival n datagram bytes calls = record {
   may = ((refl, refl, calls, All-nil (λ p. IsReplyTo n p → ⊥)), tt);
   junk = (
     λ has. let e : note.Reply n n bytes ≡ note.Junk n = only (note.Reply n n bytes) (note.Junk n) has in absurd cc,
-    λ none. absurd (none calls.header calls.args calls.begins)
+    λ none. absurd (none calls.header calls.args calls.begins),
   );
   replied = λ reply other. subst (λ (b : List ℕ). Contains (note.Reply n n bytes ∷ []) (note.Reply n n b)) (one_reply datagram bytes reply calls other) (here (note.Reply n n bytes));
 }
