@@ -4,9 +4,9 @@ use Rattle.std.specs.Prelude.{All}
 use Rattle.std.proofs.lemmas.Bool.{eqb-true, ltb-false, le-ltb}
 use Rattle.std.proofs.lemmas.List.{length-append}
 use Rattle.std.proofs.lemmas.Option.{cond_some}
-use Rattle.sl_defs.specs.Items.{u32_text, IsOpaque, AreBytes, ◌>>=◌, u32_at, opaque_at}
-use Rattle.sl_defs.specs.Rpc.{CallHeader, FitsHeader, IsAuth, numbers_text, IsCallHeader, BeginsWithHeader, HasNoHeader, AuthSys, u32s_text, IsAuthSys, u32s_at, counted_at, auth_sys_at, zero_at, auth_at, call_header_at}
-use Rattle.sl_defs.proofs.ItemLaws.{bind_some, guard_some, same_pair, Takes, u32_takes, u32_found, u32_step, opaque_takes, opaque_step, opaque_found, join}
+use Rattle.sl_defs.specs.Items.{u32_text, AreBytes, ◌>>=◌, u32_at}
+use Rattle.sl_defs.specs.Rpc.{CallHeader, IsAuth, numbers_text, IsCallHeader, BeginsWithHeader, HasNoHeader, AuthSys, u32s_text, IsAuthSys, u32s_at, counted_at, auth_sys_at, zero_at, auth_at, call_header_at}
+use Rattle.sl_defs.proofs.ItemLaws.{bind_some, Takes, u32_takes, u32_found, u32_step, opaque_step, opaque_found, join}
 
 pub same_some : {A : Type 0} (x y : A) → ◌≡◌ {A = Option A} (Some x) (Some y) → x ≡ y
 same_some x y e = cc
