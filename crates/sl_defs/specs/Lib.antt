@@ -1,4 +1,5 @@
 pub mod Items
+pub mod Parts
 pub mod Rpc
 pub mod Schedules
 pub mod Transcripts

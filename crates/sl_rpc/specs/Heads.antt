@@ -1,5 +1,5 @@
 -- What the header of a call says, and the replies that need no server (RFC 5531, section 9).
-use Rattle.std.specs.Prelude.{◌≡◌, ℕ, List, [], ◌∷◌, ◌++◌, length, take, Option, Some, None, ◌==◌, if◌then◌else◌, ◌↔◌}
+use Rattle.std.specs.Prelude.{◌≡◌, ℕ, List, [], ◌++◌, length, take, Option, Some, None, ◌==◌, if◌then◌else◌, ◌↔◌}
 use Rattle.sl_defs.specs.Items.{u32_text, AreBytes}
 use Rattle.sl_defs.specs.Rpc.{CallHeader, BeginsWithHeader, HasNoHeader, AuthSys, IsAuthSys, auth_sys_at, Refusal, RpcMismatch, CredentialTooWeak, CredentialBroken, ProgramUnavailable, ProgramMismatch, ProcedureUnavailable, refusal_of, accepted_text, mismatch_text, auth_error_text}
 use Rattle.sl_types.specs.declared.cred.Cred.{Cred}

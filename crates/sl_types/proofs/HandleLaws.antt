@@ -1,11 +1,10 @@
 -- A handle is read exactly where one is spelled.
-use Rattle.std.proofs.Common.{◌≡◌, ℕ, zero, suc, ◌+◌, ◌*◌, ◌/◌, ◌%◌, ◌^◌, ◌<◌, ◌≤◌, Bool, true, false, cond, eqb, List, [], ◌∷◌, ◌++◌, length, Option, Some, None, refl, sym, ap, subst, ◌∙◌, append_assoc, append-nil, arith, codes}
+use Rattle.std.proofs.Common.{◌≡◌, ℕ, zero, suc, ◌+◌, ◌*◌, ◌/◌, ◌%◌, ◌^◌, ◌<◌, eqb, List, [], ◌∷◌, ◌++◌, length, Option, Some, None, refl, sym, ap, subst, ◌∙◌, append-nil, arith, codes}
 use Rattle.std.specs.Prelude.{IfSome, IfNone}
 use Rattle.std.proofs.lemmas.Bool.{eqb-true}
 use Rattle.std.proofs.lemmas.Option.{cond_some}
-use Rattle.sl_defs.specs.Items.{u32_text, u64_text, AreBytes, ◌>>=◌, u32_at, u64_at}
-use Rattle.sl_defs.specs.Rpc.{zero_at}
-use Rattle.sl_defs.proofs.ItemLaws.{bind_some, Takes, u32_takes, u32_found, u64_found, u32_step, u64_step, join}
+use Rattle.sl_defs.specs.Items.{u32_text, u64_text, AreBytes, ◌>>=◌, u32_at}
+use Rattle.sl_defs.proofs.ItemLaws.{bind_some, Takes, u32_takes, u32_found, u64_found, u32_step, u64_step}
 use Rattle.sl_defs.proofs.HeaderLaws.{same_some, zero_found, zero_step}
 use Rattle.sl_types.specs.declared.kind.Kind.{Kind}
 use Rattle.sl_types.specs.declared.kind.Kind.TheVariants.{Reg, Dir, Blk, Chr, Lnk, Sock, Fifo}

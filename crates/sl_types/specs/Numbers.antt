@@ -1,5 +1,5 @@
 -- The numbers of kinds and statuses in packets (RFC 1813, section 2.6).
-use Rattle.std.specs.Prelude.{ℕ}
+use Rattle.std.specs.Prelude.{ℕ, List, [], ◌∷◌, Option, Bool, true, false, ◌==◌, find}
 use Rattle.sl_types.specs.declared.kind.Kind.{Kind}
 use Rattle.sl_types.specs.declared.kind.Kind.TheVariants as kind
 use Rattle.sl_types.specs.declared.kind.Status.{Status}
@@ -34,3 +34,19 @@ status_number status.NotSync = 10002
 status_number status.BadCookie = 10003
 status_number status.TooSmall = 10005
 status_number status.BadType = 10007
+
+-- all of them
+abbrev pub statuses : List Status
+statuses =
+    status.Ok ∷ status.Perm ∷ status.NoEnt ∷ status.Acces ∷ status.Exist ∷ status.NotDir ∷ status.IsDir ∷ status.Inval ∷ status.FBig
+    ∷ status.NoSpc ∷ status.MLink ∷ status.NameTooLong ∷ status.NotEmpty ∷ status.Stale ∷ status.BadHandle ∷ status.NotSync
+    ∷ status.BadCookie ∷ status.TooSmall ∷ status.BadType ∷ []
+
+-- the status of this number, if there is one
+abbrev pub status_of : ℕ → Option Status
+status_of n = find (λ s. status_number s == n) statuses
+
+-- whether the call succeeded
+abbrev pub is_ok_status : Status → Bool
+is_ok_status status.Ok = true
+is_ok_status other = false

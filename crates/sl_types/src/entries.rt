@@ -1,7 +1,8 @@
-ghost use Rattle.std.specs.Prelude.{◌≡◌};
+ghost use Rattle.std.specs.Prelude.{◌≡◌, IfOk};
 
 use crate::attributes::Fattr;
-use crate::names::{Fh, Name};
+use crate::names::{Fh, Name, copy_handle};
+use sl_defs::NoMemory;
 use std::marker::Model;
 
 /// An entry of READDIR (RFC 1813, section 3.3.16, `entry3`).
@@ -12,6 +13,20 @@ pub struct Entry {
     pub cookie: u64,
 }
 
+impl Entry {
+    /// An equal entry, in memory of its own.
+    pub fn copy(&self) -> Result<Entry, NoMemory>
+        ensures { IfOk result (λ copy. copy ≡ self.now) }
+    {
+        let name = self.name.copy()?;
+        Ok(Entry {
+            fileid: self.fileid,
+            name,
+            cookie: self.cookie,
+        })
+    }
+}
+
 /// An entry of READDIRPLUS (RFC 1813, section 3.3.17, `entryplus3`).
 #[derive(Drop, Debug)]
 pub struct EntryPlus {
@@ -20,6 +35,23 @@ pub struct EntryPlus {
     pub cookie: u64,
     pub attributes: Option<Fattr>,
     pub handle: Option<Fh>,
+}
+
+impl EntryPlus {
+    /// An equal entry, in memory of its own.
+    pub fn copy(&self) -> Result<EntryPlus, NoMemory>
+        ensures { IfOk result (λ copy. copy ≡ self.now) }
+    {
+        let name = self.name.copy()?;
+        let handle = copy_handle(&self.handle)?;
+        Ok(EntryPlus {
+            fileid: self.fileid,
+            name,
+            cookie: self.cookie,
+            attributes: self.attributes,
+            handle,
+        })
+    }
 }
 
 /// A list of entries of READDIR, which contracts see as that list.
@@ -51,6 +83,17 @@ impl Entries {
     {
         self.items.as_slice()
     }
+
+    /// An equal list, in memory of its own.
+    pub fn copy(&self) -> Result<Entries, NoMemory>
+        ensures { IfOk result (λ copy. copy ≡ self.now) }
+    {
+        let mut items = Vec::new(*self.items.allocator());
+        for entry in self.items.iter() {
+            items.push(entry.copy()?).map_err(|_| NoMemory)?;
+        }
+        Ok(Entries { items })
+    }
 }
 
 /// A list of entries of READDIRPLUS, which contracts see as that list.
@@ -81,5 +124,16 @@ impl EntriesPlus {
         ensures { result.now ≡ self.now }
     {
         self.items.as_slice()
+    }
+
+    /// An equal list, in memory of its own.
+    pub fn copy(&self) -> Result<EntriesPlus, NoMemory>
+        ensures { IfOk result (λ copy. copy ≡ self.now) }
+    {
+        let mut items = Vec::new(*self.items.allocator());
+        for entry in self.items.iter() {
+            items.push(entry.copy()?).map_err(|_| NoMemory)?;
+        }
+        Ok(EntriesPlus { items })
     }
 }

@@ -86,7 +86,14 @@ fn read_form(bytes: &[u8]) -> Option<(Handle, u32)>
     if !rest.is_empty() {
         return None;
     }
-    Some((Handle { volume, fileid, kind }, last))
+    Some((
+        Handle {
+            volume,
+            fileid,
+            kind,
+        },
+        last,
+    ))
 }
 
 /// A client's handle.

@@ -18,9 +18,7 @@ pub use call::{Call, CreateHow, Device, NodeData, Stable};
 pub use cred::{Cred, Gids};
 pub use entries::{Entries, EntriesPlus, Entry, EntryPlus};
 pub use fault::{ArgsFault, Ended, LineFault};
-pub use handle::{
-    Handle, InternalHandle, handles_are_read_again, internal_handles_are_read_again,
-};
+pub use handle::{Handle, InternalHandle, handles_are_read_again, internal_handles_are_read_again};
 pub use kind::{Kind, Status};
 pub use names::{Fh, Name};
 pub use reply::{

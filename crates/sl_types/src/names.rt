@@ -41,6 +41,16 @@ impl Fh {
     }
 }
 
+/// The same handle, if there is one, in memory of its own.
+pub fn copy_handle(handle: &Option<Fh>) -> Result<Option<Fh>, NoMemory>
+    ensures { IfOk result (λ copy. copy ≡ handle.now) }
+{
+    match handle {
+        Some(handle) => Ok(Some(handle.copy()?)),
+        None => Ok(None),
+    }
+}
+
 /// A name in a directory (RFC 1813, section 2.6, `filename3`).
 #[derive(Drop, Debug)]
 pub struct Name {

@@ -1,9 +1,11 @@
+ghost use Rattle.std.specs.Prelude.{◌≡◌, IfOk};
+
 use crate::attributes::Fattr;
 use crate::call::Stable;
 use crate::entries::{Entries, EntriesPlus};
 use crate::kind::Status;
-use crate::names::Fh;
-use sl_defs::{Bytes, Time};
+use crate::names::{Fh, copy_handle};
+use sl_defs::{Bytes, NoMemory, Time};
 
 /// Weak cache consistency data (RFC 1813, section 2.6, `wcc_data`). This server never gives attributes from before
 /// the call, and looks at none.
@@ -35,6 +37,20 @@ pub struct LookupOk {
     pub dir_attributes: Option<Fattr>,
 }
 
+impl LookupOk {
+    /// An equal result, in memory of its own.
+    pub fn copy(&self) -> Result<LookupOk, NoMemory>
+        ensures { IfOk result (λ copy. copy ≡ self.now) }
+    {
+        let object = self.object.copy()?;
+        Ok(LookupOk {
+            object,
+            attributes: self.attributes,
+            dir_attributes: self.dir_attributes,
+        })
+    }
+}
+
 /// The result of ACCESS (RFC 1813, section 3.3.4).
 #[derive(Clone, Copy, Debug, PartialEq, Eq)]
 pub struct AccessOk {
@@ -49,6 +65,19 @@ pub struct ReadlinkOk {
     pub path: Bytes,
 }
 
+impl ReadlinkOk {
+    /// An equal result, in memory of its own.
+    pub fn copy(&self) -> Result<ReadlinkOk, NoMemory>
+        ensures { IfOk result (λ copy. copy ≡ self.now) }
+    {
+        let path = self.path.copy()?;
+        Ok(ReadlinkOk {
+            attributes: self.attributes,
+            path,
+        })
+    }
+}
+
 /// The result of READ (RFC 1813, section 3.3.6).
 #[derive(Drop, Debug)]
 pub struct ReadOk {
@@ -56,6 +85,21 @@ pub struct ReadOk {
     pub count: u32,
     pub eof: bool,
     pub bytes: Bytes,
+}
+
+impl ReadOk {
+    /// An equal result, in memory of its own.
+    pub fn copy(&self) -> Result<ReadOk, NoMemory>
+        ensures { IfOk result (λ copy. copy ≡ self.now) }
+    {
+        let bytes = self.bytes.copy()?;
+        Ok(ReadOk {
+            attributes: self.attributes,
+            count: self.count,
+            eof: self.eof,
+            bytes,
+        })
+    }
 }
 
 /// The result of WRITE (RFC 1813, section 3.3.7).
@@ -75,6 +119,20 @@ pub struct MakeOk {
     pub wcc: Wcc,
 }
 
+impl MakeOk {
+    /// An equal result, in memory of its own.
+    pub fn copy(&self) -> Result<MakeOk, NoMemory>
+        ensures { IfOk result (λ copy. copy ≡ self.now) }
+    {
+        let object = copy_handle(&self.object)?;
+        Ok(MakeOk {
+            object,
+            attributes: self.attributes,
+            wcc: self.wcc,
+        })
+    }
+}
+
 /// The result of READDIR (RFC 1813, section 3.3.16).
 #[derive(Drop, Debug)]
 pub struct ReaddirOk {
@@ -84,6 +142,21 @@ pub struct ReaddirOk {
     pub eof: bool,
 }
 
+impl ReaddirOk {
+    /// An equal result, in memory of its own.
+    pub fn copy(&self) -> Result<ReaddirOk, NoMemory>
+        ensures { IfOk result (λ copy. copy ≡ self.now) }
+    {
+        let entries = self.entries.copy()?;
+        Ok(ReaddirOk {
+            attributes: self.attributes,
+            cookie_verifier: self.cookie_verifier,
+            entries,
+            eof: self.eof,
+        })
+    }
+}
+
 /// The result of READDIRPLUS (RFC 1813, section 3.3.17).
 #[derive(Drop, Debug)]
 pub struct ReaddirplusOk {
@@ -91,6 +164,21 @@ pub struct ReaddirplusOk {
     pub cookie_verifier: u64,
     pub entries: EntriesPlus,
     pub eof: bool,
+}
+
+impl ReaddirplusOk {
+    /// An equal result, in memory of its own.
+    pub fn copy(&self) -> Result<ReaddirplusOk, NoMemory>
+        ensures { IfOk result (λ copy. copy ≡ self.now) }
+    {
+        let entries = self.entries.copy()?;
+        Ok(ReaddirplusOk {
+            attributes: self.attributes,
+            cookie_verifier: self.cookie_verifier,
+            entries,
+            eof: self.eof,
+        })
+    }
 }
 
 /// The result of FSSTAT (RFC 1813, section 3.3.18).
@@ -185,4 +273,66 @@ pub enum Reply {
     Fsinfo(Result<FsinfoOk, AttrFault>),
     Pathconf(Result<PathconfOk, AttrFault>),
     Commit(Result<CommitOk, WccFault>),
+}
+
+impl Reply {
+    /// An equal reply, in memory of its own.
+    pub fn copy(&self) -> Result<Reply, NoMemory>
+        ensures { IfOk result (λ copy. copy ≡ self.now) }
+    {
+        match self {
+            Reply::Lookup(Ok(ok)) => Ok(Reply::Lookup(Ok(ok.copy()?))),
+            Reply::Lookup(Err(fault)) => Ok(Reply::Lookup(Err(*fault))),
+            Reply::Readlink(Ok(ok)) => Ok(Reply::Readlink(Ok(ok.copy()?))),
+            Reply::Readlink(Err(fault)) => Ok(Reply::Readlink(Err(*fault))),
+            Reply::Read(Ok(ok)) => Ok(Reply::Read(Ok(ok.copy()?))),
+            Reply::Read(Err(fault)) => Ok(Reply::Read(Err(*fault))),
+            Reply::Create(Ok(ok)) => Ok(Reply::Create(Ok(ok.copy()?))),
+            Reply::Create(Err(fault)) => Ok(Reply::Create(Err(*fault))),
+            Reply::Mkdir(Ok(ok)) => Ok(Reply::Mkdir(Ok(ok.copy()?))),
+            Reply::Mkdir(Err(fault)) => Ok(Reply::Mkdir(Err(*fault))),
+            Reply::Symlink(Ok(ok)) => Ok(Reply::Symlink(Ok(ok.copy()?))),
+            Reply::Symlink(Err(fault)) => Ok(Reply::Symlink(Err(*fault))),
+            Reply::Mknod(Ok(ok)) => Ok(Reply::Mknod(Ok(ok.copy()?))),
+            Reply::Mknod(Err(fault)) => Ok(Reply::Mknod(Err(*fault))),
+            Reply::Readdir(Ok(ok)) => Ok(Reply::Readdir(Ok(ok.copy()?))),
+            Reply::Readdir(Err(fault)) => Ok(Reply::Readdir(Err(*fault))),
+            Reply::Readdirplus(Ok(ok)) => Ok(Reply::Readdirplus(Ok(ok.copy()?))),
+            Reply::Readdirplus(Err(fault)) => Ok(Reply::Readdirplus(Err(*fault))),
+            Reply::Null => Ok(Reply::Null),
+            Reply::Getattr(result) => Ok(Reply::Getattr(*result)),
+            Reply::Access(result) => Ok(Reply::Access(*result)),
+            Reply::Write(result) => Ok(Reply::Write(*result)),
+            Reply::Fsstat(result) => Ok(Reply::Fsstat(*result)),
+            Reply::Fsinfo(result) => Ok(Reply::Fsinfo(*result)),
+            Reply::Pathconf(result) => Ok(Reply::Pathconf(*result)),
+            Reply::Commit(result) => Ok(Reply::Commit(*result)),
+            Reply::Setattr { status, wcc } => Ok(Reply::Setattr {
+                status: *status,
+                wcc: *wcc,
+            }),
+            Reply::Remove { status, wcc } => Ok(Reply::Remove {
+                status: *status,
+                wcc: *wcc,
+            }),
+            Reply::Rmdir { status, wcc } => Ok(Reply::Rmdir {
+                status: *status,
+                wcc: *wcc,
+            }),
+            Reply::Rename { status, from, to } => Ok(Reply::Rename {
+                status: *status,
+                from: *from,
+                to: *to,
+            }),
+            Reply::Link {
+                status,
+                attributes,
+                wcc,
+            } => Ok(Reply::Link {
+                status: *status,
+                attributes: *attributes,
+                wcc: *wcc,
+            }),
+        }
+    }
 }

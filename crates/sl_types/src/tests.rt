@@ -43,5 +43,9 @@ fn handles_have_these_bytes(rt: HostRuntime) {
     };
     assert_eq!(rt; internal.bytes().as_slice(), INTERNAL_BYTES.as_slice());
     assert_eq!(rt; InternalHandle::read(&INTERNAL_BYTES), Some(internal));
-    assert_eq!(rt; Handle::read(&INTERNAL_BYTES), None, "a client has no such handle");
+    assert_eq!(rt;
+        Handle::read(&INTERNAL_BYTES),
+        None,
+        "a client has no such handle"
+    );
 }

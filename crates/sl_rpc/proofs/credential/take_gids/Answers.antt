@@ -1,4 +1,4 @@
-use Rattle.std.proofs.Common.{◌≡◌, ℕ, sym, subst, arith}
+use Rattle.std.proofs.Common.{◌≡◌, ℕ, subst, arith}
 use Rattle.sl_rpc.proofs.Groups.{SoFar, begins, goes_on, fails, ends, gives_none}
 use Rattle.sl_rpc.proofs.credential.take_gids.Goals as goal
 

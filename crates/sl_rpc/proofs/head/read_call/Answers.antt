@@ -1,4 +1,4 @@
-use Rattle.std.proofs.Common.{refl, ap, length, ◌+◌, arith}
+use Rattle.std.proofs.Common.{ap, length, arith}
 use Rattle.sl_defs.proofs.HeaderLaws.{has_header, no_header}
 use Rattle.sl_rpc.specs.Heads.{view}
 use Rattle.sl_rpc.proofs.Answers.{is_head}

@@ -1,0 +1,3 @@
+pub mod DataReaders
+pub mod DataTexts
+pub mod Appended
