@@ -1,6 +1,6 @@
 -- Histories: what happened, with what was noted of it; the text in which a history is printed; and which histories
 -- of datagrams are those of a server.
-use Rattle.std.specs.Prelude.{◌≡◌, ℕ, ◌+◌, List, [], ◌∷◌, ◌++◌, Option, Some, None, All, Contains, ◌↔◌}
+use Rattle.std.specs.Prelude.{◌≡◌, ℕ, ◌+◌, List, [], ◌∷◌, ◌++◌, Some, All, Contains, ◌↔◌}
 use Rattle.sl_defs.specs.Rpc.{CallHeader, BeginsWithHeader, HasNoHeader, immediate_reply}
 use Rattle.sl_defs.specs.Schedules.{line_text}
 use Rattle.sl_defs.specs.Transcripts.{note_text}

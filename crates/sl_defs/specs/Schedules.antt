@@ -1,6 +1,6 @@
 -- The lines of a schedule, each with its one spelling. Parts are separated by one space; numbers are decimal,
 -- without leading zeros.
-use Rattle.std.specs.Prelude.{◌≡◌, ◌≢◌, ℕ, ◌+◌, ◌^◌, ◌<◌, ◌≤◌, ◌⊎◌, List, [], ◌∷◌, ◌++◌, length, codes, decimal, Option, Some, None, All}
+use Rattle.std.specs.Prelude.{◌≢◌, ℕ, ◌+◌, ◌^◌, ◌<◌, ◌≤◌, ◌⊎◌, List, [], ◌∷◌, ◌++◌, length, codes, decimal, Option, Some, None, All}
 use Rattle.hex.specs.Hex.{encode_lower}
 use Rattle.sl_defs.specs.Items.{AreBytes}
 use Rattle.sl_defs.specs.declared.setup.Policy.{Policy}

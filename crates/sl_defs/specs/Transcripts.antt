@@ -1,5 +1,5 @@
 -- The notes of a transcript, each with its one spelling.
-use Rattle.std.specs.Prelude.{◌≡◌, ℕ, ◌+◌, ◌^◌, ◌<◌, List, [], ◌∷◌, ◌++◌, codes, decimal, Bool, if◌then◌else◌}
+use Rattle.std.specs.Prelude.{ℕ, ◌^◌, ◌<◌, List, ◌++◌, codes, decimal, if◌then◌else◌}
 use Rattle.hex.specs.Hex.{encode_lower}
 use Rattle.sl_defs.specs.Items.{AreBytes, u64_text}
 use Rattle.sl_defs.specs.Schedules.{hex_text, moment_text, two_text, FitsMoment, ◌and◌}

@@ -1,14 +1,14 @@
 -- Words between spaces, and what they spell.
-use Rattle.std.proofs.Common.{◌≡◌, ℕ, zero, suc, ◌+◌, ◌-◌, ◌^◌, ◌<◌, ◌≤◌, Bool, true, false, ◌&&◌, not, eqb, List, [], ◌∷◌, ◌++◌, length, get_or, take, drop, Result, Ok, Err, append_assoc, ◌*◌, refl, sym, ap, subst, ◌∙◌, arith, inl, inr, rules, ◌⊎◌}
-use Rattle.std.specs.Prelude.{decimal, codes, IfOk}
+use Rattle.std.proofs.Common.{◌≡◌, ℕ, zero, suc, ◌+◌, ◌-◌, ◌^◌, ◌<◌, Bool, true, false, ◌&&◌, not, eqb, List, [], ◌∷◌, ◌++◌, length, get_or, take, drop, Ok, append_assoc, ◌*◌, refl, sym, ap, ◌∙◌, arith, inl, inr, rules}
+use Rattle.std.specs.Prelude.{decimal, codes}
 use Rattle.std.specs.Char.{is_ascii_digit}
 use Rattle.std.specs.Str.{all_ascii_digits, IsUtf8}
-use Rattle.std.proofs.lemmas.Bool.{cases_lt, cases_order}
-use Rattle.std.proofs.lemmas.Fmt.{IsAscii-decimal, digits_decimal, parse-decimal}
+use Rattle.std.proofs.lemmas.Bool.{cases_lt}
+use Rattle.std.proofs.lemmas.Fmt.{IsAscii-decimal, digits_decimal}
 use Rattle.std.proofs.lemmas.Str.{IsUtf8-from_ascii}
 use Rattle.std.proofs.lemmas.Str.Parse.{IsNumeralModel, numerals_by_fold}
-use Rattle.std.proofs.lemmas.List.{get_or_at, get_or_append_left, length-append, length_push, take_at, drop_at}
-use Rattle.hex.specs.Hex.{encode_lower, lower_digits, decode_of}
+use Rattle.std.proofs.lemmas.List.{get_or_at, get_or_append_left, length_push, take_at, drop_at}
+use Rattle.hex.specs.Hex.{lower_digits, decode_of}
 use Rattle.hex.proofs.HexLemmas.{decode_of-encode_lower, length-encode_with}
 use Rattle.sl_defs.specs.Items.{AreBytes}
 use Rattle.sl_text.specs.Words.{HasNoSpace}

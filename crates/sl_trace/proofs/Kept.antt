@@ -1,12 +1,11 @@
 -- What the parts of notes spell.
-use Rattle.std.proofs.Common.{◌≡◌, ℕ, ◌^◌, ◌<◌, Bool, true, false, eqb, List, Result, Ok, Err, refl, sym, ap, subst, ◌∙◌, arith, length}
+use Rattle.std.proofs.Common.{◌≡◌, ℕ, ◌^◌, ◌<◌, Bool, true, false, eqb, List, Result, Ok, Err, refl, ap, subst, ◌∙◌, arith}
 use Rattle.std.specs.Prelude.{if◌then◌else◌, MatchResult}
 use Rattle.hex.specs.Hex.{decode_sized}
 use Rattle.hex.specs.declared.error.FromHexError.{FromHexError}
 use Rattle.hex.proofs.HexLemmas.{decode_sized-encode_lower}
-use Rattle.std.specs.Int.{w64, to_be_bytes, from_be_bytes}
-use Rattle.std.proofs.lemmas.Nat.{from_be_bytes-to_be_bytes_8}
-use Rattle.sl_defs.specs.Items.{AreBytes, u64_text}
+use Rattle.std.specs.Int.{w64, from_be_bytes}
+use Rattle.sl_defs.specs.Items.{u64_text}
 use Rattle.sl_defs.proofs.ItemLaws.{AreBytes-u64_text, u64_again, length-u64_text}
 use Rattle.sl_defs.specs.Transcripts.{verifier_text}
 

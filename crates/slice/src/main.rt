@@ -14,7 +14,9 @@ mod status;
 use crate::run::run;
 use crate::standard::{StdSink, StdSource};
 use crate::status::Status;
+use std::io::ErrorKind;
 use std::process::ExitCode;
+use std::rt::Env;
 use std::{env, io};
 
 /// Writes a status's text to standard error, and gives its number.
@@ -52,11 +54,29 @@ fn report(rt: &impl Eprint, outcome: Status) -> io::Result<u8> {
     }
 }
 
-fn main(rt: HostRuntime) -> io::Result<ExitCode> {
+/// The words behind the program's name, or the status of a run that has none to go by: a word that isn't UTF-8 is
+/// no word of a command.
+fn words_of<R: Env + AllocGlobal>(rt: &R) -> Result<Vec<String>, Status> {
     let mut words = Vec::new(rt.alloc());
-    for word in env::args(&rt)?.skip(1) {
-        words.push(word)?;
+    let args = match env::args(rt) {
+        Ok(args) => args,
+        Err(fault) => {
+            return Err(if fault.kind() == ErrorKind::OutOfMemory {
+                Status::NoMemory
+            } else {
+                Status::BadWords
+            });
+        }
+    };
+    for word in args.skip(1) {
+        if words.push(word).is_err() {
+            return Err(Status::NoMemory);
+        }
     }
+    Ok(words)
+}
+
+fn main(rt: HostRuntime) -> io::Result<ExitCode> {
     let mut source = StdSource {
         reader: rt.stdin(),
         faults: 0,
@@ -65,7 +85,10 @@ fn main(rt: HostRuntime) -> io::Result<ExitCode> {
         writer: rt.stdout(),
         faults: 0,
     };
-    let outcome = run(rt.alloc(), &words, &mut source, &mut sink);
+    let outcome = match words_of(&rt) {
+        Ok(words) => run(rt.alloc(), &words, &mut source, &mut sink),
+        Err(outcome) => outcome,
+    };
     Ok(ExitCode::from(report(&rt, outcome)?))
 }
 

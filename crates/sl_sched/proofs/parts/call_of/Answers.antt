@@ -1,4 +1,4 @@
-use Rattle.std.proofs.Common.{◌≡◌, ◌∙◌, arith}
+use Rattle.std.proofs.Common.{arith}
 use Rattle.std.specs.Prelude.{decimal}
 use Rattle.sl_defs.specs.Schedules.{call_text, hex_text}
 use Rattle.sl_text.proofs.WordLaws.{decimal_no_space}

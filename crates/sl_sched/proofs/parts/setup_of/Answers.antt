@@ -1,4 +1,4 @@
-use Rattle.std.proofs.Common.{◌≡◌, ◌∙◌, ◌++◌, ◌∷◌, append_assoc, refl, arith}
+use Rattle.std.proofs.Common.{◌∙◌, ◌++◌, ◌∷◌, append_assoc, refl, arith}
 use Rattle.std.specs.Prelude.{decimal}
 use Rattle.sl_defs.specs.Schedules.{setup_text, policy_text, counts_text, policy_word, policy_number}
 use Rattle.sl_text.proofs.WordLaws.{decimal_no_space, policy_word_no_space, policy_number_fits}

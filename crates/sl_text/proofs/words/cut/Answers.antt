@@ -1,4 +1,4 @@
-use Rattle.std.proofs.Common.{◌≡◌, ◌∙◌, length, ◌+◌, ◌-◌, ◌++◌, ◌∷◌, ap, refl, get_or, arith}
+use Rattle.std.proofs.Common.{◌∙◌, length, ◌+◌, ◌∷◌, ap, refl, get_or, arith}
 use Rattle.std.proofs.lemmas.List.{take_rest, get_or_at, length-append}
 use Rattle.sl_text.proofs.WordLaws.{first_space, cut_before, cut_behind}
 use Rattle.sl_text.proofs.words.cut.Goals as goal

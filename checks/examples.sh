@@ -1,0 +1,15 @@
+#!/usr/bin/env bash
+# Each schedule of examples/ gives the transcript that lies beside it, and a transcript, read as a schedule, gives itself.
+set -u
+cd "$(dirname "$0")/.." || exit 1
+failed=0
+for schedule in examples/*.schedule; do
+    transcript=${schedule%.schedule}.transcript
+    for input in "$schedule" "$transcript"; do
+        if ! bin/slice replay <"$input" | cmp - "$transcript"; then
+            echo "$input: another transcript than $transcript"
+            failed=1
+        fi
+    done
+done
+exit $failed
