@@ -1,0 +1,7 @@
+//! The arguments of the 22 procedures of NFS version 3 (RFC 1813, section 3.3): reading and writing them.
+#![tactic(auto)]
+
+mod parts;
+mod reading;
+
+pub use reading::read_args;
