@@ -141,3 +141,123 @@ pub record BeginsWithArgs (procedure : ℕ) (call : Call) (bytes : List ℕ) : T
   pub rest : List ℕ
   pub args : IsArgs call text
   pub whole : bytes ≡ text ++ rest
+
+-- ---- canonical texts, whose padding is zero
+
+unfoldable pub dir_op_text : List ℕ → List ℕ → List ℕ
+dir_op_text dir name = opaque_text dir ++ opaque_text name
+
+unfoldable pub create_how_text : CreateHow → List ℕ
+create_how_text (how.Unchecked obj_attributes) = u32_text 0 ++ sattr_text obj_attributes
+create_how_text (how.Guarded obj_attributes) = u32_text 1 ++ sattr_text obj_attributes
+create_how_text (how.Exclusive verf) = u32_text 2 ++ u64_text verf
+
+unfoldable pub device_text : Device → List ℕ
+device_text d = sattr_text d.attributes ++ (u32_text d.major ++ u32_text d.minor)
+
+unfoldable pub node_data_text : NodeData → List ℕ
+node_data_text node.Reg = u32_text 1
+node_data_text node.Dir = u32_text 2
+node_data_text (node.Blk device) = u32_text 3 ++ device_text device
+node_data_text (node.Chr device) = u32_text 4 ++ device_text device
+node_data_text node.Lnk = u32_text 5
+node_data_text (node.Sock pipe_attributes) = u32_text 6 ++ sattr_text pipe_attributes
+node_data_text (node.Fifo pipe_attributes) = u32_text 7 ++ sattr_text pipe_attributes
+
+unfoldable pub args_text : Call → List ℕ
+args_text Null = []
+args_text (Getattr object) = opaque_text object
+args_text (Setattr object new_attributes guard) = opaque_text object ++ (sattr_text new_attributes ++ optional_text time_text guard)
+args_text (Lookup dir name) = dir_op_text dir name
+args_text (Access object access) = opaque_text object ++ u32_text access
+args_text (Readlink symlink) = opaque_text symlink
+args_text (Read file offset count) = opaque_text file ++ (u64_text offset ++ u32_text count)
+args_text (Write file offset count stable_how bytes) = opaque_text file ++ (u64_text offset ++ (u32_text count ++ (u32_text (stable_number stable_how) ++ opaque_text bytes)))
+args_text (Create dir name how) = dir_op_text dir name ++ create_how_text how
+args_text (Mkdir dir name attributes) = dir_op_text dir name ++ sattr_text attributes
+args_text (Symlink dir name symlink_attributes symlink_data) = dir_op_text dir name ++ (sattr_text symlink_attributes ++ opaque_text symlink_data)
+args_text (Mknod dir name what) = dir_op_text dir name ++ node_data_text what
+args_text (Remove dir name) = dir_op_text dir name
+args_text (Rmdir dir name) = dir_op_text dir name
+args_text (Rename from_dir from_name to_dir to_name) = dir_op_text from_dir from_name ++ dir_op_text to_dir to_name
+args_text (Link file link_dir link_name) = opaque_text file ++ dir_op_text link_dir link_name
+args_text (Readdir dir cookie cookieverf count) = opaque_text dir ++ (u64_text cookie ++ (u64_text cookieverf ++ u32_text count))
+args_text (Readdirplus dir cookie cookieverf dircount maxcount) = opaque_text dir ++ (u64_text cookie ++ (u64_text cookieverf ++ (u32_text dircount ++ u32_text maxcount)))
+args_text (Fsstat fsroot) = opaque_text fsroot
+args_text (Fsinfo fsroot) = opaque_text fsroot
+args_text (Pathconf object) = opaque_text object
+args_text (Commit file offset count) = opaque_text file ++ (u64_text offset ++ u32_text count)
+
+-- ---- calls of the grammar: lengths and numbers in range
+
+abbrev pub FitsDirOp : List ℕ → List ℕ → Type 0
+FitsDirOp dir name = FitsFh dir × FitsBytes name
+
+-- Every length is in range: handles have at most 64 bytes, all else fewer than 2 ^ 32.
+abbrev pub FitsLengths : Call → Type 0
+FitsLengths Null = Unit {0}
+FitsLengths (Getattr object) = FitsFh object
+FitsLengths (Setattr object new_attributes guard) = FitsFh object
+FitsLengths (Lookup dir name) = FitsDirOp dir name
+FitsLengths (Access object access) = FitsFh object
+FitsLengths (Readlink symlink) = FitsFh symlink
+FitsLengths (Read file offset count) = FitsFh file
+FitsLengths (Write file offset count stable_how bytes) = FitsFh file × FitsBytes bytes
+FitsLengths (Create dir name how) = FitsDirOp dir name
+FitsLengths (Mkdir dir name attributes) = FitsDirOp dir name
+FitsLengths (Symlink dir name symlink_attributes symlink_data) = FitsDirOp dir name × FitsBytes symlink_data
+FitsLengths (Mknod dir name what) = FitsDirOp dir name
+FitsLengths (Remove dir name) = FitsDirOp dir name
+FitsLengths (Rmdir dir name) = FitsDirOp dir name
+FitsLengths (Rename from_dir from_name to_dir to_name) = FitsDirOp from_dir from_name × FitsDirOp to_dir to_name
+FitsLengths (Link file link_dir link_name) = FitsFh file × FitsDirOp link_dir link_name
+FitsLengths (Readdir dir cookie cookieverf count) = FitsFh dir
+FitsLengths (Readdirplus dir cookie cookieverf dircount maxcount) = FitsFh dir
+FitsLengths (Fsstat fsroot) = FitsFh fsroot
+FitsLengths (Fsinfo fsroot) = FitsFh fsroot
+FitsLengths (Pathconf object) = FitsFh object
+FitsLengths (Commit file offset count) = FitsFh file
+
+abbrev pub FitsCreateHow : CreateHow → Type 0
+FitsCreateHow (how.Unchecked obj_attributes) = FitsSattr obj_attributes
+FitsCreateHow (how.Guarded obj_attributes) = FitsSattr obj_attributes
+FitsCreateHow (how.Exclusive verf) = FitsU64 verf
+
+pub record FitsDevice (d : Device) : Type 0 where
+  pub attributes : FitsSattr d.attributes
+  pub major : FitsU32 d.major
+  pub minor : FitsU32 d.minor
+
+abbrev pub FitsNodeData : NodeData → Type 0
+FitsNodeData node.Reg = Unit {0}
+FitsNodeData node.Dir = Unit {0}
+FitsNodeData (node.Blk device) = FitsDevice device
+FitsNodeData (node.Chr device) = FitsDevice device
+FitsNodeData node.Lnk = Unit {0}
+FitsNodeData (node.Sock pipe_attributes) = FitsSattr pipe_attributes
+FitsNodeData (node.Fifo pipe_attributes) = FitsSattr pipe_attributes
+
+-- Every number is in the range of its type, as each number of a program is.
+abbrev pub FitsNumbers : Call → Type 0
+FitsNumbers Null = Unit {0}
+FitsNumbers (Getattr object) = Unit {0}
+FitsNumbers (Setattr object new_attributes guard) = FitsSattr new_attributes × IfSome guard FitsTime
+FitsNumbers (Lookup dir name) = Unit {0}
+FitsNumbers (Access object access) = FitsU32 access
+FitsNumbers (Readlink symlink) = Unit {0}
+FitsNumbers (Read file offset count) = FitsU64 offset × FitsU32 count
+FitsNumbers (Write file offset count stable_how bytes) = FitsU64 offset × FitsU32 count
+FitsNumbers (Create dir name how) = FitsCreateHow how
+FitsNumbers (Mkdir dir name attributes) = FitsSattr attributes
+FitsNumbers (Symlink dir name symlink_attributes symlink_data) = FitsSattr symlink_attributes
+FitsNumbers (Mknod dir name what) = FitsNodeData what
+FitsNumbers (Remove dir name) = Unit {0}
+FitsNumbers (Rmdir dir name) = Unit {0}
+FitsNumbers (Rename from_dir from_name to_dir to_name) = Unit {0}
+FitsNumbers (Link file link_dir link_name) = Unit {0}
+FitsNumbers (Readdir dir cookie cookieverf count) = FitsU64 cookie × FitsU64 cookieverf × FitsU32 count
+FitsNumbers (Readdirplus dir cookie cookieverf dircount maxcount) = FitsU64 cookie × FitsU64 cookieverf × FitsU32 dircount × FitsU32 maxcount
+FitsNumbers (Fsstat fsroot) = Unit {0}
+FitsNumbers (Fsinfo fsroot) = Unit {0}
+FitsNumbers (Pathconf object) = Unit {0}
+FitsNumbers (Commit file offset count) = FitsU64 offset × FitsU32 count

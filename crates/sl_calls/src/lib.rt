@@ -3,5 +3,7 @@
 
 mod parts;
 mod reading;
+mod writing;
 
 pub use reading::read_args;
+pub use writing::write_args;
