@@ -1,5 +1,6 @@
 -- The canonical text of a call in range is in the grammar.
-use Rattle.std.proofs.Common.{◌≡◌, ℕ, ◌+◌, ◌^◌, ◌<◌, ◌≤◌, List, [], ◌++◌, length, Option, Some, None, refl, sym, ap, ◌∙◌, append-nil, arith}
+use Rattle.std.proofs.Common.{◌≡◌, ℕ, ◌+◌, ◌^◌, ◌<◌, ◌≤◌, List, [], ◌++◌, length, Option, Some, None, Result, Ok, Err, refl, sym, ap, ◌∙◌, append-nil, arith}
+use Rattle.std.specs.Prelude.{OnOk}
 use Rattle.sl_defs.specs.Items.{u32_text, u64_text, opaque_text}
 use Rattle.sl_defs.proofs.Readers.{same_some}
 use Rattle.sl_types.specs.declared.call.CreateHow.{CreateHow}
@@ -71,3 +72,11 @@ no_front call other front text rest same is other_is e =
     let second : args_at (procedure_of other) text ≡ Some (other, []) = ap (args_at (procedure_of other)) (sym (append-nil text)) ∙ args_found other text [] other_is in
     let both = same_some (call, rest) (other, []) (sym first ∙ second) in
     (ap (λ (x : Call × List ℕ). x.0) both, ap (λ (x : Call × List ℕ). x.1) both)
+
+-- what was written is in the grammar, where its numbers are those of a program
+pub on_ok_spelled : {A E : Type 0} (r : Result A E) (call : Call) → FitsLengths call → OnOk r (FitsNumbers call) → OnOk r (IsArgs call (args_text call))
+on_ok_spelled r call short fits =
+    elim r as (λ r. OnOk r (FitsNumbers call) → OnOk r (IsArgs call (args_text call))) [
+      | Ok x ↦ λ numbers. args_spell call short numbers
+      | Err e ↦ λ _. tt
+    ] fits

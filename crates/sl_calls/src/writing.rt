@@ -1,9 +1,9 @@
 //! The arguments of each procedure at the end of some bytes.
-ghost use Rattle.std.specs.Prelude.{◌≡◌, ◌++◌, length, take, OnOk, OnErr};
+ghost use Rattle.std.specs.Prelude.{◌≡◌, ◌++◌, length, take, OnOk, OnErr, IfSome};
 ghost use Rattle.sl_defs.specs.Items.{u32_text, u64_text, opaque_text};
 ghost use Rattle.sl_defs.specs.Parts.{optional_text};
-ghost use Rattle.sl_items.specs.Spelling.{FitsBytes, FitsFh, sattr_text, stable_number, time_text};
-ghost use Rattle.sl_calls.specs.Args.{FitsDirOp, FitsLengths, args_text, create_how_text, device_text, dir_op_text, node_data_text};
+ghost use Rattle.sl_items.specs.Spelling.{FitsBytes, FitsFh, FitsSattr, FitsTime, FitsU32, FitsU64, sattr_text, stable_number, time_text};
+ghost use Rattle.sl_calls.specs.Args.{FitsCreateHow, FitsDevice, FitsDirOp, FitsLengths, FitsNodeData, FitsNumbers, IsArgs, args_text, create_how_text, device_text, dir_op_text, node_data_text};
 
 use sl_items::{put_bytes, put_fh, put_name, put_optional_time, put_sattr, put_stable};
 use sl_types::{Bytes, Call, CreateHow, Device, Fh, Name, NodeData, Sattr, Stable, Time};
@@ -23,6 +23,7 @@ fn put_dir_op(out: &mut Vec<u8>, dir: &Fh, name: &Name) -> Result<(), NoMemory>
 #[tactic(auto, using(sl_items::proofs::Appended::appended), unfolding(crate::specs::Args::create_how_text))]
 fn put_create_how(out: &mut Vec<u8>, how: CreateHow) -> Result<(), NoMemory>
     ensures ok { OnOk result (out.new.items ≡ out.old.items ++ create_how_text how) }
+    ensures fits { FitsCreateHow how }
     ensures kept { take (length out.old.items) out.new.items ≡ out.old.items }
 {
     match how {
@@ -44,6 +45,7 @@ fn put_create_how(out: &mut Vec<u8>, how: CreateHow) -> Result<(), NoMemory>
 #[tactic(auto, using(sl_items::proofs::Appended::appended), unfolding(crate::specs::Args::device_text))]
 fn put_device(out: &mut Vec<u8>, device: Device) -> Result<(), NoMemory>
     ensures ok { OnOk result (out.new.items ≡ out.old.items ++ device_text device) }
+    ensures fits { FitsDevice device }
     ensures kept { take (length out.old.items) out.new.items ≡ out.old.items }
 {
     put_sattr(out, device.attributes)?;
@@ -55,6 +57,7 @@ fn put_device(out: &mut Vec<u8>, device: Device) -> Result<(), NoMemory>
 #[tactic(auto, using(sl_items::proofs::Appended::appended), unfolding(crate::specs::Args::node_data_text))]
 fn put_node_data(out: &mut Vec<u8>, what: NodeData) -> Result<(), NoMemory>
     ensures ok { OnOk result (out.new.items ≡ out.old.items ++ node_data_text what) }
+    ensures fits { FitsNodeData what }
     ensures kept { take (length out.old.items) out.new.items ≡ out.old.items }
 {
     match what {
@@ -89,6 +92,7 @@ fn put_setattr(
 ) -> Result<(), NoMemory>
     requires { FitsFh object.now }
     ensures ok { OnOk result (out.new.items ≡ out.old.items ++ (opaque_text object.now ++ (sattr_text attributes ++ optional_text time_text guard))) }
+    ensures fits { FitsSattr attributes × IfSome guard FitsTime }
     ensures kept { take (length out.old.items) out.new.items ≡ out.old.items }
 {
     put_fh(out, object)?;
@@ -102,6 +106,7 @@ fn put_setattr(
 fn put_span(out: &mut Vec<u8>, file: &Fh, offset: u64, count: u32) -> Result<(), NoMemory>
     requires { FitsFh file.now }
     ensures ok { OnOk result (out.new.items ≡ out.old.items ++ (opaque_text file.now ++ (u64_text offset ++ u32_text count))) }
+    ensures fits { FitsU64 offset × FitsU32 count }
     ensures kept { take (length out.old.items) out.new.items ≡ out.old.items }
 {
     put_fh(out, file)?;
@@ -133,6 +138,7 @@ fn put_symlink(
     requires place { FitsDirOp dir.now name.now }
     requires path { FitsBytes path.now }
     ensures ok { OnOk result (out.new.items ≡ out.old.items ++ (dir_op_text dir.now name.now ++ (sattr_text attributes ++ opaque_text path.now))) }
+    ensures fits { FitsSattr attributes }
     ensures kept { take (length out.old.items) out.new.items ≡ out.old.items }
 {
     put_dir_op(out, dir, name)?;
@@ -141,11 +147,30 @@ fn put_symlink(
     Ok(())
 }
 
+#[tactic(auto, using(sl_items::proofs::Appended::appended))]
+fn put_readdir(
+    out: &mut Vec<u8>,
+    dir: &Fh,
+    cookie: u64,
+    cookie_verifier: u64,
+    count: u32,
+) -> Result<(), NoMemory>
+    requires { FitsFh dir.now }
+    ensures ok { OnOk result (out.new.items ≡ out.old.items ++ (opaque_text dir.now ++ (u64_text cookie ++ (u64_text cookie_verifier ++ u32_text count)))) }
+    ensures fits { FitsU64 cookie × FitsU64 cookie_verifier × FitsU32 count }
+    ensures kept { take (length out.old.items) out.new.items ≡ out.old.items }
+{
+    put_page(out, dir, cookie, cookie_verifier)?;
+    put_u32(out, count)?;
+    Ok(())
+}
+
 /// A directory, and from where in its list on: the first arguments of READDIR and READDIRPLUS.
 #[tactic(auto, using(sl_items::proofs::Appended::appended))]
 fn put_page(out: &mut Vec<u8>, dir: &Fh, cookie: u64, cookie_verifier: u64) -> Result<(), NoMemory>
     requires { FitsFh dir.now }
     ensures ok { OnOk result (out.new.items ≡ out.old.items ++ (opaque_text dir.now ++ (u64_text cookie ++ u64_text cookie_verifier))) }
+    ensures fits { FitsU64 cookie × FitsU64 cookie_verifier }
     ensures kept { take (length out.old.items) out.new.items ≡ out.old.items }
 {
     put_fh(out, dir)?;
@@ -154,11 +179,48 @@ fn put_page(out: &mut Vec<u8>, dir: &Fh, cookie: u64, cookie_verifier: u64) -> R
     Ok(())
 }
 
+#[tactic(auto, using(sl_items::proofs::Appended::appended))]
+fn put_access(out: &mut Vec<u8>, object: &Fh, bits: u32) -> Result<(), NoMemory>
+    requires { FitsFh object.now }
+    ensures ok { OnOk result (out.new.items ≡ out.old.items ++ (opaque_text object.now ++ u32_text bits)) }
+    ensures fits { FitsU32 bits }
+    ensures kept { take (length out.old.items) out.new.items ≡ out.old.items }
+{
+    put_fh(out, object)?;
+    put_u32(out, bits)?;
+    Ok(())
+}
+
+#[tactic(auto, using(sl_items::proofs::Appended::appended))]
+fn put_mkdir(out: &mut Vec<u8>, dir: &Fh, name: &Name, attributes: Sattr) -> Result<(), NoMemory>
+    requires { FitsDirOp dir.now name.now }
+    ensures ok { OnOk result (out.new.items ≡ out.old.items ++ (dir_op_text dir.now name.now ++ sattr_text attributes)) }
+    ensures fits { FitsSattr attributes }
+    ensures kept { take (length out.old.items) out.new.items ≡ out.old.items }
+{
+    put_dir_op(out, dir, name)?;
+    put_sattr(out, attributes)?;
+    Ok(())
+}
+
+/// How much of a directory's list is asked for: the last arguments of READDIRPLUS.
+#[tactic(auto, using(sl_items::proofs::Appended::appended))]
+fn put_limits(out: &mut Vec<u8>, dircount: u32, maxcount: u32) -> Result<(), NoMemory>
+    ensures ok { OnOk result (out.new.items ≡ out.old.items ++ (u32_text dircount ++ u32_text maxcount)) }
+    ensures fits { FitsU32 dircount × FitsU32 maxcount }
+    ensures kept { take (length out.old.items) out.new.items ≡ out.old.items }
+{
+    put_u32(out, dircount)?;
+    put_u32(out, maxcount)?;
+    Ok(())
+}
+
 /// Appends the arguments. Some of them may stay behind what stood there before, where memory ran out.
 #[tactic(auto, using(sl_items::proofs::Appended::appended), unfolding(crate::specs::Args::args_text))]
 fn put_args(out: &mut Vec<u8>, call: &Call) -> Result<(), NoMemory>
     requires { FitsLengths call.now }
     ensures ok { OnOk result (out.new.items ≡ out.old.items ++ args_text call.now) }
+    ensures fits { OnOk result (FitsNumbers call.now) }
     ensures kept { take (length out.old.items) out.new.items ≡ out.old.items }
 {
     match call {
@@ -170,10 +232,7 @@ fn put_args(out: &mut Vec<u8>, call: &Call) -> Result<(), NoMemory>
             guard,
         } => put_setattr(out, object, *attributes, *guard),
         Call::Lookup { dir, name } => put_dir_op(out, dir, name),
-        Call::Access { object, bits } => {
-            put_fh(out, object)?;
-            put_u32(out, *bits)
-        }
+        Call::Access { object, bits } => put_access(out, object, *bits),
         Call::Readlink { link } => put_fh(out, link),
         Call::Read {
             file,
@@ -198,10 +257,7 @@ fn put_args(out: &mut Vec<u8>, call: &Call) -> Result<(), NoMemory>
             dir,
             name,
             attributes,
-        } => {
-            put_dir_op(out, dir, name)?;
-            put_sattr(out, *attributes)
-        }
+        } => put_mkdir(out, dir, name, *attributes),
         Call::Symlink {
             dir,
             name,
@@ -232,10 +288,7 @@ fn put_args(out: &mut Vec<u8>, call: &Call) -> Result<(), NoMemory>
             cookie,
             cookie_verifier,
             count,
-        } => {
-            put_page(out, dir, *cookie, *cookie_verifier)?;
-            put_u32(out, *count)
-        }
+        } => put_readdir(out, dir, *cookie, *cookie_verifier, *count),
         Call::Readdirplus {
             dir,
             cookie,
@@ -244,8 +297,7 @@ fn put_args(out: &mut Vec<u8>, call: &Call) -> Result<(), NoMemory>
             maxcount,
         } => {
             put_page(out, dir, *cookie, *cookie_verifier)?;
-            put_u32(out, *dircount)?;
-            put_u32(out, *maxcount)
+            put_limits(out, *dircount, *maxcount)
         }
         Call::Fsstat { object } => put_fh(out, object),
         Call::Fsinfo { object } => put_fh(out, object),
@@ -263,6 +315,8 @@ fn put_args(out: &mut Vec<u8>, call: &Call) -> Result<(), NoMemory>
 pub fn write_args(call: &Call, out: &mut Vec<u8>) -> Result<(), NoMemory>
     requires { FitsLengths call.now }
     ensures ok { OnOk result (out.new.items ≡ out.old.items ++ args_text call.now) }
+    // What is appended is in the grammar.
+    ensures spelled { OnOk result (IsArgs call.now (args_text call.now)) }
     ensures err { OnErr result (out.new.items ≡ out.old.items) }
 {
     let before = out.len();
