@@ -18,7 +18,7 @@ use Rattle.sl_types.specs.declared.fault.ArgsFault.TheVariants as fault
 use Rattle.sl_items.specs.Reading.{fh_at, bytes_at, time_at, sattr_at, stable_at, GivesArgs}
 use Rattle.sl_items.specs.Spelling.{IsFh, IsBytes, IsTime, IsSattr, IsStable}
 use Rattle.sl_items.proofs.DataReaders.{fh_reader, bytes_reader, time_reader, sattr_reader, stable_reader}
-use Rattle.sl_calls.specs.Args.{IsDirOp, create_mode, IsCreateArm, IsCreateHow, IsDevice, node_kind, IsNodeArm, IsNodeData, procedure_of, IsArgs, BeginsWithArgs}
+use Rattle.sl_calls.specs.Args.{IsDirOp, create_mode, IsCreateArm, IsCreateHow, IsDevice, node_kind, IsNodeArm, IsNodeData, procedure_of, IsArgs, BeginsWithArgs, FitsDirOp, FitsLengths}
 use Rattle.sl_calls.specs.Reading.{dir_op_at, create_arm_at, create_how_at, device_at, node_arm_at, node_data_at, setattr_at, setattr_call, access_at, access_call, read_at, read_call, write_at, write_call, create_at, create_call, mkdir_at, mkdir_call, symlink_at, symlink_call, mknod_at, mknod_call, rename_at, rename_call, link_at, link_call, readdir_at, readdir_call, readdirplus_at, readdirplus_call, commit_at, commit_call, object_at, entry_at, entry_call, args_at}
 
 -- ---- parts of arguments
@@ -256,6 +256,35 @@ args_takes n bytes x fits e =
     arm pathconf_reads _ n bytes x fits e20 (λ e21.
     arm commit_reads _ n bytes x fits e21 (λ none. absurd cc))))))))))))))))))))))
 
+-- ---- what is spelled has lengths in range
+
+dir_op_fits : (dir name text : List ℕ) → IsDirOp dir name text → FitsDirOp dir name
+dir_op_fits dir name text is = (is.2.1, is.3.short)
+
+args_fit : (c : Call) (text : List ℕ) → IsArgs c text → FitsLengths c
+args_fit Null text is = tt
+args_fit (Getattr object) text is = is.1
+args_fit (Setattr object attributes guard) text is = is.2.1
+args_fit (Lookup dir name) text is = dir_op_fits dir name text is
+args_fit (Access object bits) text is = is.2.1
+args_fit (Readlink link) text is = is.1
+args_fit (Read file offset count) text is = is.2.1
+args_fit (Write file offset count stable_how body) text is = (is.2.1, is.3.3.3.3.short)
+args_fit (Create dir name how) text is = dir_op_fits dir name is.0 is.2
+args_fit (Mkdir dir name attributes) text is = dir_op_fits dir name is.0 is.2
+args_fit (Symlink dir name attributes path) text is = (dir_op_fits dir name is.0 is.2, is.3.3.short)
+args_fit (Mknod dir name what) text is = dir_op_fits dir name is.0 is.2
+args_fit (Remove dir name) text is = dir_op_fits dir name text is
+args_fit (Rmdir dir name) text is = dir_op_fits dir name text is
+args_fit (Rename from from_name to to_name) text is = (dir_op_fits from from_name is.0 is.2, dir_op_fits to to_name is.1 is.3)
+args_fit (Link file dir name) text is = (is.2.1, dir_op_fits dir name is.1 is.3)
+args_fit (Readdir dir cookie verifier count) text is = is.2.1
+args_fit (Readdirplus dir cookie verifier dircount maxcount) text is = is.2.1
+args_fit (Fsstat object) text is = is.1
+args_fit (Fsinfo object) text is = is.1
+args_fit (Pathconf object) text is = is.1
+args_fit (Commit file offset count) text is = is.2.1
+
 -- ---- a reader's answer
 
 pub args_at_front : (n : ℕ) (c : Call) (bytes : List ℕ) → BeginsWithArgs n c bytes → (rest : List ℕ) × (args_at n bytes ≡ Some (c, rest))
@@ -273,6 +302,13 @@ module _ (n : ℕ) (bytes : List ℕ) (r : Result Call ArgsFault) (rest : List �
   is_only h =
       elim r as (λ (r : Result Call ArgsFault). GivesArgs (λ c. (c, rest)) r (args_at n bytes) → IfOk r (λ c. (other : Call) → BeginsWithArgs n other bytes → other ≡ c)) [
         | Ok c ↦ λ g other b. let f = args_at_front n other bytes b in ap (λ (x : Call × List ℕ). x.0) (same_some (other, f.0) (c, rest) (sym f.1 ∙ g))
+        | Err e ↦ λ _. tt
+      ] h
+
+  pub is_short : AreBytes bytes → GivesArgs (λ c. (c, rest)) r (args_at n bytes) → IfOk r FitsLengths
+  is_short fits h =
+      elim r as (λ (r : Result Call ArgsFault). GivesArgs (λ c. (c, rest)) r (args_at n bytes) → IfOk r FitsLengths) [
+        | Ok c ↦ λ g. let t = args_takes n bytes (c, rest) fits g in args_fit c t.0 t.1.0
         | Err e ↦ λ _. tt
       ] h
 

@@ -81,12 +81,12 @@ pub(crate) fn take_node_data(cursor: &mut Cursor<'_>) -> Result<NodeData, Short>
         }
         5 => Ok(NodeData::Lnk),
         6 => {
-            let attributes = take_sattr(cursor)?;
-            Ok(NodeData::Sock(attributes))
+            let socket = take_sattr(cursor)?;
+            Ok(NodeData::Sock(socket))
         }
         7 => {
-            let attributes = take_sattr(cursor)?;
-            Ok(NodeData::Fifo(attributes))
+            let fifo = take_sattr(cursor)?;
+            Ok(NodeData::Fifo(fifo))
         }
         _ => Err(Short),
     }

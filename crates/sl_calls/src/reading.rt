@@ -2,7 +2,7 @@
 ghost use Rattle.std.specs.Prelude.{◌≡◌, IfOk};
 ghost use Rattle.sl_types.specs.declared.call.Call.{Call};
 ghost use Rattle.sl_types.specs.declared.fault.ArgsFault.TheVariants.{Garbage};
-ghost use Rattle.sl_calls.specs.Args.{BeginsWithArgs};
+ghost use Rattle.sl_calls.specs.Args.{BeginsWithArgs, FitsLengths};
 ghost use Rattle.sl_items.specs.Reading.{GivesArgs};
 ghost use Rattle.sl_calls.specs.Reading.{access_at, args_at, commit_at, create_at, link_at, mkdir_at, mknod_at, read_at, readdir_at, readdirplus_at, rename_at, setattr_at, symlink_at, write_at};
 
@@ -221,6 +221,8 @@ pub fn read_args(alloc: Global, procedure: u32, bytes: &[u8]) -> Result<Call, Ar
     ensures found { IfOk result (λ call. BeginsWithArgs procedure call bytes.now) }
     // No other call's arguments stand there.
     ensures only { IfOk result (λ call. (other : Call) → BeginsWithArgs procedure other bytes.now → other ≡ call) }
+    // It can be written.
+    ensures short { IfOk result FitsLengths }
     ensures garbage { result ≡ Err Garbage → (call : Call) → BeginsWithArgs procedure call bytes.now → ⊥ }
 {
     let mut cursor = Cursor::new(bytes);
