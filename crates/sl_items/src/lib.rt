@@ -5,9 +5,9 @@ mod reading;
 mod writing;
 
 pub use reading::{
-    garbage, take_bytes, take_fattr, take_fh, take_kind, take_name, take_optional_fattr,
-    take_optional_fh, take_optional_time, take_optional_u32, take_optional_u64, take_sattr,
-    take_set_time, take_stable, take_time,
+    take_bytes, take_fattr, take_fh, take_kind, take_name, take_optional_fattr, take_optional_fh,
+    take_optional_time, take_optional_u32, take_optional_u64, take_sattr, take_set_time,
+    take_stable, take_time,
 };
 pub use writing::{
     put_bytes, put_fattr, put_fh, put_kind, put_name, put_optional_fattr, put_optional_fh,

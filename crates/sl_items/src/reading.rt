@@ -11,7 +11,7 @@ use sl_xdr::{Cursor, Short};
 use std::alloc::Global;
 
 /// What can't be read isn't in the grammar.
-pub fn garbage(_short: Short) -> ArgsFault
+fn garbage(_short: Short) -> ArgsFault
     ensures { result ≡ Garbage }
 {
     ArgsFault::Garbage

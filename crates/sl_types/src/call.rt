@@ -1,6 +1,8 @@
+ghost use Rattle.std.specs.Prelude.{◌≡◌, IfOk};
+
 use crate::attributes::Sattr;
 use crate::names::{Fh, Name};
-use sl_defs::{Bytes, Time};
+use sl_defs::{Bytes, NoMemory, Time};
 
 /// How stable a WRITE is asked to be, or is (RFC 1813, section 3.3.7, `stable_how`).
 #[derive(Clone, Copy, Debug, PartialEq, Eq)]
@@ -141,4 +143,182 @@ pub enum Call {
         offset: u64,
         count: u32,
     },
+}
+
+/// A directory and a name in it, copied.
+fn copy_entry(dir: &Fh, name: &Name) -> Result<(Fh, Name), NoMemory>
+    ensures { IfOk result (λ copy. (copy.0 ≡ dir.now) × (copy.1 ≡ name.now)) }
+{
+    let dir = dir.copy()?;
+    let name = name.copy()?;
+    Ok((dir, name))
+}
+
+impl Call {
+    /// An equal call, in memory of its own.
+    pub fn copy(&self) -> Result<Call, NoMemory>
+        ensures { IfOk result (λ copy. copy ≡ self.now) }
+    {
+        match self {
+            Call::Null => Ok(Call::Null),
+            Call::Getattr { object } => Ok(Call::Getattr {
+                object: object.copy()?,
+            }),
+            Call::Setattr {
+                object,
+                attributes,
+                guard,
+            } => Ok(Call::Setattr {
+                object: object.copy()?,
+                attributes: *attributes,
+                guard: *guard,
+            }),
+            Call::Lookup { dir, name } => {
+                let (dir, name) = copy_entry(dir, name)?;
+                Ok(Call::Lookup { dir, name })
+            }
+            Call::Access { object, bits } => Ok(Call::Access {
+                object: object.copy()?,
+                bits: *bits,
+            }),
+            Call::Readlink { link } => Ok(Call::Readlink { link: link.copy()? }),
+            Call::Read {
+                file,
+                offset,
+                count,
+            } => Ok(Call::Read {
+                file: file.copy()?,
+                offset: *offset,
+                count: *count,
+            }),
+            Call::Write {
+                file,
+                offset,
+                count,
+                stable,
+                bytes,
+            } => Ok(Call::Write {
+                file: file.copy()?,
+                offset: *offset,
+                count: *count,
+                stable: *stable,
+                bytes: bytes.copy()?,
+            }),
+            Call::Create { dir, name, how } => {
+                let (dir, name) = copy_entry(dir, name)?;
+                Ok(Call::Create {
+                    dir,
+                    name,
+                    how: *how,
+                })
+            }
+            Call::Mkdir {
+                dir,
+                name,
+                attributes,
+            } => {
+                let (dir, name) = copy_entry(dir, name)?;
+                Ok(Call::Mkdir {
+                    dir,
+                    name,
+                    attributes: *attributes,
+                })
+            }
+            Call::Symlink {
+                dir,
+                name,
+                attributes,
+                path,
+            } => {
+                let (dir, name) = copy_entry(dir, name)?;
+                Ok(Call::Symlink {
+                    dir,
+                    name,
+                    attributes: *attributes,
+                    path: path.copy()?,
+                })
+            }
+            Call::Mknod { dir, name, what } => {
+                let (dir, name) = copy_entry(dir, name)?;
+                Ok(Call::Mknod {
+                    dir,
+                    name,
+                    what: *what,
+                })
+            }
+            Call::Remove { dir, name } => {
+                let (dir, name) = copy_entry(dir, name)?;
+                Ok(Call::Remove { dir, name })
+            }
+            Call::Rmdir { dir, name } => {
+                let (dir, name) = copy_entry(dir, name)?;
+                Ok(Call::Rmdir { dir, name })
+            }
+            Call::Rename {
+                from,
+                from_name,
+                to,
+                to_name,
+            } => {
+                let (from, from_name) = copy_entry(from, from_name)?;
+                let (to, to_name) = copy_entry(to, to_name)?;
+                Ok(Call::Rename {
+                    from,
+                    from_name,
+                    to,
+                    to_name,
+                })
+            }
+            Call::Link { file, dir, name } => {
+                let (dir, name) = copy_entry(dir, name)?;
+                Ok(Call::Link {
+                    file: file.copy()?,
+                    dir,
+                    name,
+                })
+            }
+            Call::Readdir {
+                dir,
+                cookie,
+                cookie_verifier,
+                count,
+            } => Ok(Call::Readdir {
+                dir: dir.copy()?,
+                cookie: *cookie,
+                cookie_verifier: *cookie_verifier,
+                count: *count,
+            }),
+            Call::Readdirplus {
+                dir,
+                cookie,
+                cookie_verifier,
+                dircount,
+                maxcount,
+            } => Ok(Call::Readdirplus {
+                dir: dir.copy()?,
+                cookie: *cookie,
+                cookie_verifier: *cookie_verifier,
+                dircount: *dircount,
+                maxcount: *maxcount,
+            }),
+            Call::Fsstat { object } => Ok(Call::Fsstat {
+                object: object.copy()?,
+            }),
+            Call::Fsinfo { object } => Ok(Call::Fsinfo {
+                object: object.copy()?,
+            }),
+            Call::Pathconf { object } => Ok(Call::Pathconf {
+                object: object.copy()?,
+            }),
+            Call::Commit {
+                file,
+                offset,
+                count,
+            } => Ok(Call::Commit {
+                file: file.copy()?,
+                offset: *offset,
+                count: *count,
+            }),
+        }
+    }
 }

@@ -1,6 +1,6 @@
-ghost use Rattle.std.specs.Prelude.{◌≡◌};
+ghost use Rattle.std.specs.Prelude.{◌≡◌, IfOk};
 
-use sl_defs::Bytes;
+use sl_defs::{Bytes, NoMemory};
 use std::marker::Model;
 
 /// Bytes to be written from an offset on.
@@ -8,6 +8,19 @@ use std::marker::Model;
 pub struct Write {
     pub offset: u64,
     pub bytes: Bytes,
+}
+
+impl Write {
+    /// An equal write, in memory of its own.
+    pub fn copy(&self) -> Result<Write, NoMemory>
+        ensures { IfOk result (λ copy. copy ≡ self.now) }
+    {
+        let bytes = self.bytes.copy()?;
+        Ok(Write {
+            offset: self.offset,
+            bytes,
+        })
+    }
 }
 
 /// A list of writes, which contracts see as that list.
@@ -38,6 +51,18 @@ impl Writes {
         ensures { result.now ≡ self.now }
     {
         self.items.as_slice()
+    }
+
+    /// An equal list, in memory of its own.
+    pub fn copy(&self) -> Result<Writes, NoMemory>
+        ensures { IfOk result (λ copy. copy ≡ self.now) }
+    {
+        let mut items = Vec::new(*self.items.allocator());
+        for write in &self.items {
+            let copy = write.copy()?;
+            items.push(copy).map_err(|_| NoMemory)?;
+        }
+        Ok(Writes { items })
     }
 }
 
