@@ -1,0 +1,5 @@
+pub mod Laws
+pub mod Ranges
+pub mod Reading
+pub mod Results
+pub mod Texts
