@@ -1,0 +1,4 @@
+pub mod Pieces
+pub mod Replays
+pub mod Spoils
+pub mod Keeping

@@ -1,0 +1,5 @@
+pub mod Images
+pub mod Performing
+pub mod Record
+pub mod Shelf
+pub mod Stored

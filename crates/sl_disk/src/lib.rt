@@ -1,0 +1,12 @@
+//! Disks on a shelf, and what a stop at any moment may leave on them.
+#![tactic(auto)]
+
+mod memory;
+mod record;
+mod script;
+mod shelf;
+mod steps;
+mod storage;
+
+pub use memory::MemShelf;
+pub use shelf::{Arm, Armed, Shelf, ShelfFault};
