@@ -1,19 +1,18 @@
 -- That a device call of a shelf in memory keeps to what every device call keeps to.
-use Rattle.std.proofs.Common.{◌≡◌, ◌≢◌, ◌⊎◌, ◌↔◌, ℕ, zero, suc, ◌+◌, ◌<◌, ◌≤◌, ◌==◌, cond, List, [], ◌∷◌, ◌++◌, length, get_or, set, take, drop, refl, sym, ◌∙◌, ap, subst, arith, inl, inr, Option, Some, None, Result, Ok, Err, true, IsErrOf, length-append}
+use Rattle.std.proofs.Common.{◌≡◌, ◌≢◌, ◌⊎◌, ◌↔◌, ℕ, ◌+◌, ◌<◌, ◌≤◌, List, [], ◌∷◌, ◌++◌, length, get_or, set, take, refl, sym, ap, subst, arith, inl, inr, Option, Some, None, Result, Ok, Err, IsErrOf, length-append}
 use Rattle.std.proofs.lemmas.List.{take-append-le, take_all, get_or-set_same, get_or-set_other}
 use Rattle.std.proofs.lemmas.Bool.{cases_lt}
-use Rattle.sl_disk.specs.Shelf.{Told, Situation, LeavesOthers, Elapses, SameImages, SameCounts, Counts, KeepsScript, MeetsArm, IsUnchanged, Called, NoMore, OnlyLooks, one_on}
-use Rattle.sl_disk.specs.Images.{DiskState, IsImage, image}
-use Rattle.sl_disk.specs.Record.{changed, goes_through, disk_after, situation, no_script, told}
-use Rattle.sl_disk.specs.Performing.{noting, Worked, Missed, Broke, Stayed, Faulted, Performs, script_at, when_done, when_failed, when_stopped}
+use Rattle.sl_disk.specs.Shelf.{Told, LeavesOthers, Elapses, SameImages, Counts, KeepsScript, MeetsArm, Called, one_on}
+use Rattle.sl_disk.specs.Images.{DiskState, IsImage}
+use Rattle.sl_disk.specs.Record.{disk_after, situation, no_script, told}
+use Rattle.sl_disk.specs.Performing.{noting, Worked, Faulted, script_at, when_done, when_failed, when_stopped}
 use Rattle.sl_disk.specs.declared.record.Call.{Call}
 use Rattle.sl_disk.specs.declared.record.Change.{Change}
-use Rattle.sl_disk.specs.declared.record.Change.TheVariants.{Left}
 use Rattle.sl_disk.specs.declared.record.Work.{Work}
 use Rattle.sl_disk.specs.declared.script.Script.{Script}
 use Rattle.sl_disk.specs.declared.shelf.ShelfFault.{ShelfFault}
 use Rattle.sl_disk.specs.declared.shelf.ShelfFault.TheVariants.{Failed, Stopped, NoMemory}
-use Rattle.sl_disk.proofs.Replays.{push_here, push_elsewhere}
+use Rattle.sl_disk.proofs.Replays.{push_elsewhere}
 
 same_images : (P : List ℕ → Type 0) → SameImages P P
 same_images P c = (λ p. p, λ p. p)

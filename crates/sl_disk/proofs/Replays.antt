@@ -1,10 +1,12 @@
 -- The storages, and the record that they follow.
-use Rattle.std.proofs.Common.{◌≡◌, ◌≢◌, ℕ, zero, suc, ◌<◌, ◌==◌, cond, List, [], ◌∷◌, ◌++◌, length, get_or, set, refl, sym, ◌∙◌, ap, subst, arith, inl, inr, Option, Some, None}
+use Rattle.std.proofs.Common.{◌≡◌, ◌≢◌, ℕ, zero, suc, ◌<◌, ◌==◌, cond, List, [], ◌∷◌, ◌++◌, length, get_or, set, replicate, refl, sym, ◌∙◌, ap, subst, arith, inl, inr}
 use Rattle.std.proofs.lemmas.Bool.{cases_eq}
 use Rattle.std.proofs.lemmas.Bool.Decides.{nat_tests}
-use Rattle.sl_disk.specs.Images.{DiskState}
-use Rattle.sl_disk.specs.Record.{changed, goes_through, disk_after}
-use Rattle.sl_disk.specs.Stored.{Follow, storage_state, state_of}
+use Rattle.sl_disk.specs.Images.{DiskState, after_steps}
+use Rattle.sl_disk.specs.Record.{changed, goes_through, disk_after, situation, told, no_script}
+use Rattle.sl_disk.specs.Shelf.{IsNew}
+use Rattle.sl_disk.specs.declared.script.Script.{Script}
+use Rattle.sl_disk.specs.Stored.{Follow, AreEmpty, storage_state, state_of}
 use Rattle.sl_disk.specs.declared.storage.Storage.{Storage}
 use Rattle.sl_disk.specs.declared.record.Call.{Call}
 use Rattle.sl_disk.specs.declared.record.Change.{Change}
@@ -56,3 +58,26 @@ follow_push xs ys calls disk change here elsewhere follow d = elim (cases_eq d d
       subst P (sym same) (here ∙ ap (changed change) (follow disk) ∙ sym (push_here calls disk change))
   | inr other ↦ elsewhere d other ∙ follow d ∙ sym (push_elsewhere calls disk d change other)
 ]
+
+-- ---- a new shelf
+
+pub empty_push : (xs : List Storage) (s : Storage) → AreEmpty xs → state_of s ≡ (record { synced = []; steps = [] }) → AreEmpty (xs ++ s ∷ [])
+empty_push [] s empty is zero = is
+empty_push [] s empty is (suc d) = refl
+empty_push (x ∷ xs) s empty is zero = empty 0
+empty_push (x ∷ xs) s empty is (suc d) = empty_push xs s (λ k. empty (suc k)) is d
+
+pub all_new : (n d : ℕ) → get_or (replicate n no_script) d no_script ≡ no_script
+all_new zero d = refl
+all_new (suc n) zero = refl
+all_new (suc n) (suc d) = all_new n d
+
+pub is_new : (calls : List Call) (scripts : List Script) (n : ℕ) → calls ≡ [] → scripts ≡ replicate n no_script → IsNew (situation calls scripts)
+is_new calls scripts n none is =
+    subst (λ (l : List Call). IsNew (situation l scripts)) (sym none) (record {
+      told = λ d. ap (λ (s : Script). told (record { synced = []; steps = [] }) s) (ap (λ (l : List Script). get_or l d no_script) is ∙ all_new n d);
+      images = λ d c left. left.1 ∙ nothing left.0;
+    })
+  where
+    nothing : (i : ℕ) → after_steps i [] [] ≡ []
+    nothing i = refl

@@ -1,5 +1,5 @@
 -- The images of a disk in memory: what a stop leaves of the steps since the last sync.
-use Rattle.std.specs.Prelude.{◌≡◌, ℕ, zero, suc, ◌+◌, ◌-◌, ◌*◌, ◌/◌, ◌%◌, min, Bool, true, false, if◌then◌else◌, List, [], ◌∷◌, ◌++◌, length, take, drop}
+use Rattle.std.specs.Prelude.{◌≡◌, ℕ, zero, suc, ◌+◌, ◌-◌, ◌*◌, ◌/◌, ◌%◌, min, Bool, true, false, List, [], ◌∷◌, length, take}
 use Rattle.sl_disk.specs.Shelf.{padded, put, written}
 use Rattle.sl_disk.specs.declared.steps.Edit.{Edit}
 use Rattle.sl_disk.specs.declared.steps.Edit.TheVariants.{Write, Cut}

@@ -1,3 +1,4 @@
+pub mod Blind
 pub mod Images
 pub mod Performing
 pub mod Record

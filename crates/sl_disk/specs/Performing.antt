@@ -1,5 +1,5 @@
 -- What a device call of a shelf in memory puts into its record.
-use Rattle.std.specs.Prelude.{◌≡◌, ℕ, ◌<◌, ◌≤◌, ◌++◌, Option, Some, None, List, [], ◌∷◌, length, set, get_or, true, false, Result, MatchResult}
+use Rattle.std.specs.Prelude.{◌≡◌, ℕ, ◌++◌, Option, Some, None, List, [], ◌∷◌, set, get_or, true, false, Result, MatchResult}
 use Rattle.sl_disk.specs.Shelf.{due, one_on, Rose}
 use Rattle.sl_disk.specs.Record.{no_script}
 use Rattle.sl_disk.specs.declared.shelf.Arm.TheVariants.{Stop, Fail}

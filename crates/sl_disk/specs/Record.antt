@@ -1,6 +1,6 @@
 -- What a shelf in memory tells, read off the record of its calls.
-use Rattle.std.specs.Prelude.{◌≡◌, ℕ, zero, suc, ◌+◌, ◌≤◌, ◌<◌, ◌==◌, true, List, [], ◌∷◌, ◌++◌, length, take, get_or, if◌then◌else◌, None, IsTrue, refl}
-use Rattle.std.proofs.Common.{ap, sym, ◌∙◌, subst, arith}
+use Rattle.std.specs.Prelude.{◌≡◌, ℕ, ◌≤◌, ◌<◌, ◌==◌, true, List, [], ◌∷◌, ◌++◌, length, take, get_or, if◌then◌else◌, None, refl}
+use Rattle.std.proofs.Common.{sym, subst, arith}
 use Rattle.std.proofs.lemmas.List.{take_all}
 use Rattle.sl_disk.specs.Shelf.{Told, Situation}
 use Rattle.sl_disk.specs.Images.{DiskState, IsImage, image}
@@ -8,7 +8,6 @@ use Rattle.sl_disk.specs.declared.record.Change.{Change}
 use Rattle.sl_disk.specs.declared.record.Change.TheVariants.{Took, Synced, Left, StoppedAt}
 use Rattle.sl_disk.specs.declared.record.Call.{Call}
 use Rattle.sl_disk.specs.declared.script.Script.{Script}
-use Rattle.sl_disk.specs.declared.steps.Step.{Step}
 
 -- what a change makes of a disk
 abbrev pub changed : Change → DiskState → DiskState

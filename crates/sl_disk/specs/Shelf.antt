@@ -1,5 +1,5 @@
 -- What a shelf of disks tells of itself, and what its calls do to that.
-use Rattle.std.specs.Prelude.{◌≡◌, ◌≢◌, ◌⊎◌, ◌↔◌, ℕ, ◌+◌, ◌-◌, ◌%◌, ◌^◌, ◌<◌, ◌≤◌, min, max, Bool, IsTrue, nat_le, if◌then◌else◌, List, ◌++◌, length, take, drop, replicate, Option, Some, None, Result, IsErrOf, OnOk, MatchResult}
+use Rattle.std.specs.Prelude.{◌≡◌, ◌≢◌, ◌⊎◌, ◌↔◌, ℕ, ◌+◌, ◌-◌, ◌%◌, ◌^◌, ◌<◌, ◌≤◌, min, max, Bool, true, IsTrue, nat_le, if◌then◌else◌, List, [], ◌++◌, length, take, drop, replicate, Option, Some, None, Result, IsErrOf, MatchResult}
 use Rattle.sl_disk.specs.declared.shelf.Armed.{Armed}
 use Rattle.sl_disk.specs.declared.shelf.Arm.{Arm}
 use Rattle.sl_disk.specs.declared.shelf.Arm.TheVariants.{Stop, Fail}
@@ -174,3 +174,8 @@ pub record Leaves (image disk : ℕ) (old new : Situation) : Type 0 where
   pub told : IsTrue (old.disk disk).is_modelled → new.disk disk ≡ record (old.disk disk) { contents = (new.disk disk).contents; crashes = ((old.disk disk).crashes + 1) % 2 ^ 64; last_crash = Some image }
   pub an_image : IsTrue (old.disk disk).is_modelled → old.may_leave disk (new.disk disk).contents
   pub settled : IsTrue (old.disk disk).is_modelled → Only (new.disk disk).contents (new.may_leave disk)
+
+-- a shelf of empty disks, of which none was ever armed, has failed or was left by a stop
+pub record IsNew (shelf : Situation) : Type 0 where
+  pub told : (d : ℕ) → shelf.disk d ≡ (record { is_modelled = true; contents = []; faults = 0; stops = 0; armed = None; arms = 0; last_arm = None; crashes = 0; last_crash = None })
+  pub images : (d : ℕ) → Only [] (shelf.may_leave d)

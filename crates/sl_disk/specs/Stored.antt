@@ -1,5 +1,5 @@
 -- What the storage of a shelf in memory holds.
-use Rattle.std.specs.Prelude.{◌≡◌, ℕ, zero, suc, ◌≤◌, List, [], ◌∷◌, length, take, drop}
+use Rattle.std.specs.Prelude.{◌≡◌, ℕ, zero, suc, List, [], ◌∷◌, take, drop}
 use Rattle.sl_disk.specs.Images.{DiskState, after_steps}
 use Rattle.sl_disk.specs.Record.{disk_after}
 use Rattle.sl_disk.specs.declared.storage.Storage.{Storage}
@@ -17,3 +17,7 @@ storage_state (s ∷ storages) (suc d) = storage_state storages d
 -- each storage holds what the record of the calls says
 abbrev pub Follow : List Storage → List Call → Type 0
 Follow storages calls = (d : ℕ) → storage_state storages d ≡ disk_after calls d
+
+-- nothing was ever on these disks
+abbrev pub AreEmpty : List Storage → Type 0
+AreEmpty storages = (d : ℕ) → storage_state storages d ≡ (record { synced = []; steps = [] })

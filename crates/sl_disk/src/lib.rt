@@ -1,6 +1,7 @@
 //! Disks on a shelf, and what a stop at any moment may leave on them.
 #![tactic(auto)]
 
+mod files;
 mod memory;
 mod record;
 mod script;
@@ -8,5 +9,6 @@ mod shelf;
 mod steps;
 mod storage;
 
+pub use files::FileShelf;
 pub use memory::MemShelf;
 pub use shelf::{Arm, Armed, Shelf, ShelfFault};

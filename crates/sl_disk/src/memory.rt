@@ -1,7 +1,7 @@
 //! A shelf in memory, whose calls can be made to fail or to stop inside.
-ghost use Rattle.std.specs.Prelude.{◌≡◌, ◌≢◌, ◌<◌, ◌++◌, [], ◌∷◌, ℕ, length, OnOk, OnErr, IfOk};
+ghost use Rattle.std.specs.Prelude.{◌≡◌, ◌≢◌, ◌<◌, ◌++◌, [], ◌∷◌, ◌≤◌, ℕ, length, take, drop, replicate, OnOk, OnErr, IfOk};
 ghost use Rattle.sl_disk.specs.Record.{changed, no_script, situation, shows, counts_now, since_now, together_now, only_together, each_of_them};
-ghost use Rattle.sl_disk.specs.Stored.{Follow, storage_state};
+ghost use Rattle.sl_disk.specs.Stored.{Follow, AreEmpty, storage_state};
 ghost use Rattle.sl_disk.specs.Performing.{noting, Performs};
 
 use crate::record::{Call, Change, Work};
@@ -29,6 +29,147 @@ pub struct MemShelf {
     ghost all_storages: { length storages.items ≡ 64 },
     ghost all_scripts: { length scripts.items ≡ 64 },
     ghost follow: { Follow storages.items calls.items },
+}
+
+impl MemShelf {
+    ghost use Rattle.sl_disk.specs.Performing.{Performs};
+    ghost use Rattle.sl_disk.specs.Shelf.{IsNew};
+
+    fn perform(&mut self, disk: u8, work: Work) -> Result<(), ShelfFault>
+        requires { disk < 64 }
+        ensures { Performs disk work self.old.calls.items self.new.calls.items self.old.scripts.items self.new.scripts.items result }
+    {
+        perform(
+            &mut self.storages,
+            &mut self.scripts,
+            &mut self.calls,
+            disk,
+            work,
+        )
+    }
+
+    /// A shelf of empty disks.
+    pub fn new(alloc: Global) -> Result<MemShelf, NoMemory>
+        ensures { IfOk result (λ shelf. IsNew (⟦<MemShelf as Shelf>⟧.now shelf)) }
+    {
+        Ok(MemShelf {
+            alloc,
+            storages: new_storages(alloc)?,
+            scripts: new_scripts(alloc)?,
+            calls: Vec::new(alloc),
+        })
+    }
+}
+
+/// Empty disks.
+#[tactic(auto, using(crate::proofs::Replays::empty_push, std::proofs::lemmas::List::length_push))]
+fn new_storages(alloc: Global) -> Result<Vec<Storage>, NoMemory>
+    ensures size { IfOk result (λ storages. length storages.items ≡ 64) }
+    ensures empty { IfOk result (λ storages. AreEmpty storages.items) }
+{
+    let mut storages = Vec::new(alloc);
+    for _ in 0..DISKS {
+        if storages.push(Storage::new(alloc)).is_err() {
+            return Err(NoMemory);
+        }
+    }
+    Ok(storages)
+}
+
+/// Scripts in which nothing is armed.
+fn new_scripts(alloc: Global) -> Result<Vec<Script>, NoMemory>
+    ensures { IfOk result (λ scripts. scripts.items ≡ replicate 64 no_script) }
+{
+    match vec![in alloc; Script::new(); DISKS] {
+        Ok(scripts) => Ok(scripts),
+        Err(_) => Err(NoMemory),
+    }
+}
+
+impl Shelf for MemShelf {
+    ghost now = { λ m. situation m.calls.items m.scripts.items };
+
+    ghost shows = { λ m d modelled. shows m.calls.items m.scripts.items d };
+
+    ghost counts_now = { λ m. counts_now m.calls.items m.scripts.items };
+
+    ghost only_now = { λ m. since_now m.calls.items m.scripts.items };
+
+    ghost counts_together = { λ m. together_now m.calls.items m.scripts.items };
+
+    ghost only_together = { λ m. only_together m.calls.items m.scripts.items };
+
+    ghost each_of_them = { λ m. each_of_them m.calls.items m.scripts.items };
+
+    fn len(&mut self, disk: u8) -> Result<u64, ShelfFault> {
+        match self.perform(disk, Work::Look) {
+            Ok(()) => Ok(self.storages[disk as usize].contents().len() as u64),
+            Err(fault) => Err(fault),
+        }
+    }
+
+    fn read(&mut self, disk: u8, at: u64, into: &mut [u8]) -> Result<usize, ShelfFault> {
+        match self.perform(disk, Work::Look) {
+            Ok(()) => Ok(copy_from(self.storages[disk as usize].contents(), at as usize, into)),
+            Err(fault) => Err(fault),
+        }
+    }
+
+    fn write_at(&mut self, disk: u8, at: u64, bytes: &[u8]) -> Result<(), ShelfFault> {
+        match copy_of(self.alloc, bytes) {
+            Ok(copy) => self.perform(disk, Work::Alter(Edit::Write(at, copy))),
+            Err(_) => Err(ShelfFault::NoMemory),
+        }
+    }
+
+    fn cut(&mut self, disk: u8, size: u64) -> Result<(), ShelfFault> {
+        self.perform(disk, Work::Alter(Edit::Cut(size)))
+    }
+
+    fn sync(&mut self, disk: u8) -> Result<(), ShelfFault> {
+        self.perform(disk, Work::Sync)
+    }
+
+    fn arm(&mut self, disk: u8, after: u64, how: Arm) {
+        let script = self.scripts[disk as usize];
+        self.scripts[disk as usize] = script.arm(after, how);
+    }
+
+    fn crash(&mut self, disk: u8, image: u64) -> Result<(), ShelfFault> {
+        let script = self.scripts[disk as usize];
+        match note_change(
+            &mut self.storages,
+            &mut self.calls,
+            disk,
+            Change::Left(image),
+        ) {
+            Ok(()) => {
+                self.scripts[disk as usize] = script.crash(image);
+                Ok(())
+            }
+            Err(_) => Err(ShelfFault::NoMemory),
+        }
+    }
+}
+
+fn copy_of(alloc: Global, bytes: &[u8]) -> Result<Bytes, NoMemory>
+    ensures { IfOk result (λ copy. copy ≡ bytes.now) }
+{
+    match bytes.to_vec(alloc) {
+        Ok(copy) => Ok(Bytes::new(copy)),
+        Err(_) => Err(NoMemory),
+    }
+}
+
+/// Copies from that place on into the front of a buffer, as much as there is and fits.
+fn copy_from(contents: &[u8], at: usize, into: &mut [u8]) -> usize
+    ensures within { result ≤ length into.old }
+    ensures bytes { take result into.new ≡ take (length into.old) (drop at contents.now) }
+{
+    let rest = &contents[at.min(contents.len())..];
+    let some = rest.len().min(into.len());
+    into[..some].copy_from_slice(&rest[..some]);
+    some
 }
 
 /// Does a change on one disk. After an error nothing is changed.

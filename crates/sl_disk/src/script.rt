@@ -17,7 +17,12 @@ pub(crate) struct Script {
 }
 
 impl Script {
-    pub(crate) fn new() -> Script {
+    ghost use Rattle.sl_disk.specs.Record.{no_script};
+
+    /// Nothing is armed.
+    pub(crate) fn new() -> Script
+        ensures { result ≡ no_script }
+    {
         Script {
             armed: None,
             arms: 0,

@@ -1,7 +1,6 @@
-use Rattle.std.proofs.Common.{rules, ◌≡◌, get_or, ap, ◌∙◌, sym, arith, set}
+use Rattle.std.proofs.Common.{◌≡◌, ap, arith, set}
 use Rattle.std.proofs.lemmas.Grind.{common_steps}
 use Rattle.std.proofs.lemmas.List.{get_or_read}
-use Rattle.sl_disk.specs.Shelf.{Rose}
 use Rattle.sl_disk.specs.Record.{no_script}
 use Rattle.sl_disk.specs.Performing.{script_at}
 use Rattle.sl_disk.proofs.memory.perform.Goals as goal
