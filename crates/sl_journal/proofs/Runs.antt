@@ -35,7 +35,7 @@ goes_on disk old mid new P known so_far time others here = record {
   each = λ c left. ⊎_elim (so_far.each c) (here c) (time.nothing_else disk old.moment c so_far.later left);
   before = λ t c le left. ⊎_elim (so_far.before t c le) (λ now. inr (here c now)) (time.nothing_else disk t c (omega (arith, le, so_far.later)) left);
   together = λ t f le left. ⊎_elim (so_far.together t f le) (λ now. inr (here (f disk) (now disk known), λ d below other. (so_far.others.images d other (f d)).1 ((others.images d other (f d)).1 (now d below))))
-    (time.no_others_together t f (omega (arith, le, so_far.later)) left);
+      (time.no_others_together t f (omega (arith, le, so_far.later)) left);
 }
 
 -- a run, and another
@@ -46,7 +46,7 @@ chain disk old mid new P Q first then so = record {
   each = λ c left. ⊎_elim (first.each c) (so c) (then.before old.moment c first.later left);
   before = λ t c le left. ⊎_elim (first.before t c le) (λ now. inr (so c now)) (then.before t c (omega (arith, le, first.later)) left);
   together = λ t f le left. ⊎_elim (first.together t f le) (λ now. inr (so (f disk) now.0, λ d below other. (first.others.images d other (f d)).1 (now.1 d below other)))
-    (then.together t f (omega (arith, le, first.later)) left);
+      (then.together t f (omega (arith, le, first.later)) left);
 }
 
 pub weaker : (disk : ℕ) (old new : Situation) (P Q : List ℕ → Type 0) → LeavesOnly disk old new Q → ((c : List ℕ) → Q c → P c) → LeavesOnly disk old new P

@@ -50,3 +50,32 @@ pub record IsJournal (bytes head : List ℕ) (records : List (List ℕ)) : Type 
 -- What bytes stand for: fresh ones for no record, a journal for its records.
 abbrev pub Stands : List ℕ → List ℕ → List (List ℕ) → Type 0
 Stands bytes head records = (IsFresh bytes × (records ≡ [])) ⊎ IsJournal bytes head records
+
+-- a record stands at the front, and the rest follows
+pub record IsRecord (bytes payload rest : List ℕ) : Type 0 where
+  pub short : length payload < 2 ^ 32
+  pub spelled : bytes ≡ record_text payload ++ rest
+
+-- a closed gate stands at the front
+pub record IsClosed (bytes : List ℕ) : Type 0 where
+  pub next : ℕ
+  pub is_closed : next ≢ 1
+  pub rest : List ℕ
+  pub spelled : bytes ≡ next ∷ rest
+
+-- a length of four bytes stands at the front, then so many bytes, and the rest follows
+pub record IsPayload (bytes payload rest : List ℕ) : Type 0 where
+  pub short : length payload < 2 ^ 32
+  pub spelled : bytes ≡ u32_text (length payload) ++ (payload ++ rest)
+
+-- the first byte is closed
+abbrev pub BeginsClosed : List ℕ → Type 0
+BeginsClosed bytes = (rest : List ℕ) × (bytes ≡ 0 ∷ rest)
+
+-- behind a closed first byte stand the head and a closed gate
+abbrev pub HasHead : List ℕ → List ℕ → Type 0
+HasHead bytes head = (more : List ℕ) × (bytes ≡ 0 ∷ (head ++ 0 ∷ more))
+
+-- what the first bytes stand for the others stand for too
+abbrev pub IsAlike : List ℕ → List ℕ → List ℕ → Type 0
+IsAlike bytes head c = (records : List (List ℕ)) → Stands bytes head records → Stands c head records

@@ -42,3 +42,7 @@ abbrev pub fault_of : ShelfFault → JournalFault
 fault_of shelf.Failed = Failed
 fault_of shelf.Stopped = Stopped
 fault_of shelf.NoMemory = NoMemory
+
+-- A reading has no fault but want of memory and that there is no journal.
+abbrev pub IsReadFault : {T : Type 0} → Result T JournalFault → Type 0
+IsReadFault result = MatchResult result (λ _. Unit {0}) (λ fault. (fault ≡ NotAJournal) ⊎ (fault ≡ NoMemory))

@@ -32,6 +32,7 @@ pub(crate) fn write_synced<V: Shelf>(
     ensures counts { Counts result ((V.now shelf.old).disk disk) ((V.now shelf.new).disk disk) }
     ensures script { KeepsScript ((V.now shelf.old).disk disk) ((V.now shelf.new).disk disk) }
     ensures known { IsErrOf result JournalFault.NotAJournal → ⊥ }
+    ensures not_spent { IsErrOf result JournalFault.Spent → ⊥ }
 {
     match shelf.write_at(disk, at, bytes) {
         Ok(()) => {}
@@ -57,6 +58,7 @@ pub(crate) fn sync_and_read<V: Shelf>(
     ensures counts { Counts result ((V.now shelf.old).disk disk) ((V.now shelf.new).disk disk) }
     ensures script { KeepsScript ((V.now shelf.old).disk disk) ((V.now shelf.new).disk disk) }
     ensures known { IsErrOf result JournalFault.NotAJournal → ⊥ }
+    ensures not_spent { IsErrOf result JournalFault.Spent → ⊥ }
 {
     match shelf.sync(disk) {
         Ok(()) => {}
@@ -75,6 +77,7 @@ fn read_all<V: Shelf>(alloc: Global, shelf: &mut V, disk: u8) -> Result<Vec<u8>,
     ensures counts { Counts result ((V.now shelf.old).disk disk) ((V.now shelf.new).disk disk) }
     ensures script { KeepsScript ((V.now shelf.old).disk disk) ((V.now shelf.new).disk disk) }
     ensures known { IsErrOf result JournalFault.NotAJournal → ⊥ }
+    ensures not_spent { IsErrOf result JournalFault.Spent → ⊥ }
 {
     match shelf.len(disk) {
         Ok(0) => Ok(Vec::new(alloc)),
@@ -98,6 +101,7 @@ fn read_front<V: Shelf>(
     ensures counts { Counts result ((V.now shelf.old).disk disk) ((V.now shelf.new).disk disk) }
     ensures script { KeepsScript ((V.now shelf.old).disk disk) ((V.now shelf.new).disk disk) }
     ensures known { IsErrOf result JournalFault.NotAJournal → ⊥ }
+    ensures not_spent { IsErrOf result JournalFault.Spent → ⊥ }
 {
     let Ok(mut bytes) = vec![in alloc; 0; size] else {
         return Err(JournalFault::NoMemory);
@@ -120,6 +124,7 @@ fn read_into<V: Shelf>(shelf: &mut V, disk: u8, bytes: &mut Vec<u8>) -> Result<u
     ensures counts { Counts result ((V.now shelf.old).disk disk) ((V.now shelf.new).disk disk) }
     ensures script { KeepsScript ((V.now shelf.old).disk disk) ((V.now shelf.new).disk disk) }
     ensures known { IsErrOf result JournalFault.NotAJournal → ⊥ }
+    ensures not_spent { IsErrOf result JournalFault.Spent → ⊥ }
 {
     match shelf.read(disk, 0, bytes) {
         Ok(some) => Ok(some),

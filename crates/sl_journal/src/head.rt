@@ -14,7 +14,25 @@ pub(crate) fn head(actor: u8, setup: &Setup) -> [u8; 20]
     };
     let [a, b, c, d, e, f, g, h] = setup.volume.to_be_bytes();
     [
-        b'S', b'L', b'J', b'1', actor, policy, p, setup.dirs, setup.small, setup.nodes, 0, 0, a, b,
-        c, d, e, f, g, h,
+        b'S',
+        b'L',
+        b'J',
+        b'1',
+        actor,
+        policy,
+        p,
+        setup.dirs,
+        setup.small,
+        setup.nodes,
+        0,
+        0,
+        a,
+        b,
+        c,
+        d,
+        e,
+        f,
+        g,
+        h,
     ]
 }
