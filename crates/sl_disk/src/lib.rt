@@ -12,3 +12,6 @@ mod storage;
 pub use files::FileShelf;
 pub use memory::MemShelf;
 pub use shelf::{Arm, Armed, Shelf, ShelfFault};
+
+#[cfg(test)]
+mod tests;

@@ -14,3 +14,6 @@ pub use fault::JournalFault;
 pub use journal::Journal;
 pub use reading::read_journal;
 pub use records::Records;
+
+#[cfg(test)]
+mod tests;
