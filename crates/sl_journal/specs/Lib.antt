@@ -1,0 +1,3 @@
+pub mod Format
+pub mod Moments
+pub mod Settled

@@ -1,0 +1,19 @@
+//! A journal: records on a disk, each of them there for good once it was acknowledged.
+#![tactic(auto)]
+
+mod appending;
+mod device;
+mod fault;
+mod head;
+mod journal;
+mod making;
+mod reading;
+mod records;
+
+pub use fault::JournalFault;
+pub use journal::Journal;
+pub use reading::read_journal;
+pub use records::Records;
+
+#[cfg(test)]
+mod tests;

@@ -1,0 +1,118 @@
+ghost use Rattle.std.specs.Prelude.{◌≤◌};
+
+use super::*;
+use sl_defs::{Policy, Setup};
+use sl_disk::{Arm, MemShelf, Shelf};
+use std::alloc::Global;
+use std::process::Abort;
+use std::test::Fail;
+
+const SETUP: Setup = Setup {
+    volume: 7,
+    policy: Policy::Switch(3),
+    dirs: 4,
+    small: 2,
+    nodes: 1,
+};
+
+const HEAD: [u8; 20] = [
+    b'S', b'L', b'J', b'1', 16, 0, 3, 4, 2, 1, 0, 0, 0, 0, 0, 0, 0, 0, 0, 7,
+];
+
+/// How many records the bytes stand for; none where they have no reading.
+fn count(rt: &impl Abort, alloc: Global, bytes: &[u8]) -> Option<usize> {
+    match read_journal(alloc, bytes, &HEAD) {
+        Ok(records) => Some(records.len()),
+        Err(fault) => {
+            assert_eq!(rt; fault, JournalFault::NotAJournal);
+            None
+        }
+    }
+}
+
+/// What a read of disk 16 gives.
+fn bytes_of(alloc: Global, shelf: &mut MemShelf) -> Result<Vec<u8>, Fail> {
+    let mut bytes = vec![in alloc; 0; 256]?;
+    let some = shelf.read(16, 0, &mut bytes)?;
+    bytes.truncate(some);
+    Ok(bytes)
+}
+
+#[test]
+fn a_journal_is_laid_out_so(rt: HostRuntime) -> Result<(), Fail> {
+    let alloc = rt.alloc();
+    let mut shelf = MemShelf::new(alloc)?;
+    let (mut journal, records) = Journal::open(alloc, &mut shelf, 16, &SETUP)?;
+    assert_eq!(rt; records.len(), 0);
+    journal.append(&mut shelf, b"ab")?;
+    let bytes = bytes_of(alloc, &mut shelf)?;
+    assert_eq!(rt; bytes.len(), 29);
+    let (first, behind) = bytes.split_at(1);
+    let (head, record) = behind.split_at(20);
+    assert_eq!(rt; first, [1].as_slice());
+    assert_eq!(rt; head, HEAD.as_slice());
+    assert_eq!(rt; record, [1, 0, 0, 0, 2, b'a', b'b', 0].as_slice());
+    Ok(())
+}
+
+#[test]
+fn what_is_cut_off_has_no_reading(rt: HostRuntime) -> Result<(), Fail> {
+    let alloc = rt.alloc();
+    let mut shelf = MemShelf::new(alloc)?;
+    let (mut journal, _) = Journal::open(alloc, &mut shelf, 16, &SETUP)?;
+    journal.append(&mut shelf, b"a")?;
+    journal.append(&mut shelf, b"")?;
+    journal.append(&mut shelf, b"bcd")?;
+    let bytes = bytes_of(alloc, &mut shelf)?;
+    for size in 0..bytes.len() {
+        let wanted = if size <= 1 { Some(0) } else { None };
+        let (front, _) = bytes.split_at(size);
+        assert_eq!(rt; count(&rt, alloc, front), wanted, "{size} bytes");
+    }
+    assert_eq!(rt; count(&rt, alloc, &bytes), Some(3));
+    let (mut other, _) = Journal::open(alloc, &mut shelf, 17, &SETUP)?;
+    other.append(&mut shelf, b"z")?;
+    let mut copy = vec![in alloc; 0; 64]?;
+    let some = shelf.read(17, 0, &mut copy)?;
+    copy.truncate(some);
+    assert_eq!(rt; count(&rt, alloc, &copy), None);
+    Ok(())
+}
+
+/// Opens a journal and adds two records, with a stop or a fault inside the call of this number, and opens it again.
+fn stopped_at(rt: &impl Abort, alloc: Global, call: u64, how: Arm) -> Result<(), Fail>
+    requires { 1 ≤ call }
+{
+    let mut shelf = MemShelf::new(alloc)?;
+    shelf.arm(16, call, how);
+    let mut known = 0;
+    if let Ok((mut journal, _)) = Journal::open(alloc, &mut shelf, 16, &SETUP) {
+        if journal.append(&mut shelf, b"one").is_ok() {
+            known = 1;
+            if journal.append(&mut shelf, b"two").is_ok() {
+                known = 2;
+            }
+        }
+        if let Err(fault) = journal.append(&mut shelf, b"") {
+            assert!(rt; journal.append(&mut shelf, b"") == Err(fault));
+        }
+    }
+    let (_, records) = Journal::open(alloc, &mut shelf, 16, &SETUP)?;
+    let found = records.len();
+    assert!(rt;
+        known <= found && found <= known + 1,
+        "{found} records after {known}"
+    );
+    Ok(())
+}
+
+#[test]
+fn a_stop_inside_any_call_leaves_what_was_acknowledged(rt: HostRuntime) -> Result<(), Fail> {
+    for call in 1..20 {
+        for image in 0..8 {
+            stopped_at(&rt, rt.alloc(), call, Arm::Stop(image))?;
+        }
+        stopped_at(&rt, rt.alloc(), call, Arm::Fail)?;
+    }
+    Ok(())
+}
