@@ -1,0 +1,7 @@
+pub mod Plan
+pub mod Volume
+pub mod Checks
+pub mod Looking
+pub mod Changing
+pub mod Procedures
+pub mod Perform

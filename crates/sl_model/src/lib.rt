@@ -1,0 +1,8 @@
+//! One NFS version 3 server: what a call answers, and what it leaves.
+//!
+//! `specs/` has the definition: a volume, each procedure as a plan of look-ups, and what a call does to a volume.
+#![tactic(auto)]
+
+mod node;
+
+pub use node::{Entry, Listed, Node, Unstable};
