@@ -22,11 +22,12 @@ use Rattle.sl_types.specs.declared.reply.MakeOk.{MakeOk}
 use Rattle.sl_types.specs.declared.reply.Reply.{Reply}
 use Rattle.sl_types.specs.declared.reply.Reply.TheVariants as reply
 use Rattle.sl_types.specs.declared.kind.Status.TheVariants as ended
+use Rattle.sl_types.specs.Handles.{handle_text}
 use Rattle.sl_model.specs.declared.node.Node.{Node}
 use Rattle.sl_model.specs.declared.node.Entry.{Entry}
 use Rattle.sl_model.specs.Plan.{Plan, Done, Stop, NodeKey, ◌>>=◌}
-use Rattle.sl_model.specs.Volume.{Change, PutNode, TakeNode, PutName, TakeName, PutText, PutBytes, AddWrite, written_to, is_dir, is_reg}
-use Rattle.sl_model.specs.Checks.{refuse, handle, checked, checked_both, has_bad_time, live, in_directory, granted, object, directory, see, entry, find, below, verifier, want, place, is_dots, is_dot, is_dot_dot}
+use Rattle.sl_model.specs.Volume.{Unstable, Change, PutNode, TakeNode, PutName, TakeName, PutText, PutBytes, AddWrite, written_to, is_dir, is_reg}
+use Rattle.sl_model.specs.Checks.{refuse, checked, checked_both, has_bad_time, live, in_directory, granted, object, directory, see, entry, find, below, verifier, want, place, is_dots, is_dot, is_dot_dot}
 use Rattle.sl_model.specs.Looking.{Outcome, unchanged, attributes, handle_to, no_wcc, wcc_of, up_to_unit}
 
 -- the largest size of a file, and the greatest number of links to an object
@@ -87,11 +88,14 @@ putting before after = if same_attributes before after then [] else PutNode afte
 -- ---- SETATTR (RFC 1813, section 3.3.2)
 
 -- the guard is the object's ctime (NFS3ERR_NOT_SYNC)
-abbrev pub guarded : ℕ → Option Time → Plan (Unit {0})
-guarded f None = Done tt
-guarded f (Some t) = do
+abbrev pub guarded_by : ℕ → Time → Plan (Unit {0})
+guarded_by f t = do
   n ← see f
   refuse (not (same_time n.ctime t)) NotSync
+
+unfoldable pub guarded : ℕ → Option Time → Plan (Unit {0})
+guarded f None = Done tt
+guarded f (Some t) = guarded_by f t
 
 abbrev pub setting : Node → Sattr → Time → Outcome
 setting n s now = record {
@@ -100,9 +104,8 @@ setting n s now = record {
 }
 
 -- bytes past a size go, and bytes up to it are zero
-abbrev pub setattr : Cred → List ℕ → Sattr → Option Time → Time → Plan Outcome
-setattr cred bytes s guard now = do
-  h ← handle bytes
+abbrev pub setattr : Cred → Handle → Sattr → Option Time → Time → Plan Outcome
+setattr cred h s guard now = do
   _ ← refuse (has_bad_time s) Inval
   _ ← object cred h
   _ ← guarded h.fileid guard
@@ -160,12 +163,14 @@ write_none h asked = do
   v ← verifier
   unchanged (wrote n 0 asked v)
 
-abbrev pub write : Cred → List ℕ → ℕ → ℕ → Stable → List ℕ → Time → Choice → Plan Outcome
-write cred file offset count asked bytes now choice = do
-  h ← handle file
+unfoldable pub write_in : Handle → ℕ → ℕ → Stable → List ℕ → Time → Choice → Plan Outcome
+write_in h offset count asked bytes now choice = if count == 0 then write_none h asked else write_at h offset count asked bytes now choice
+
+abbrev pub write : Cred → Handle → ℕ → ℕ → Stable → List ℕ → Time → Choice → Plan Outcome
+write cred h offset count asked bytes now choice = do
   _ ← object cred h
   _ ← refuse (not (is_reg h.kind) || nat_lt (length bytes) count) Inval
-  if count == 0 then write_none h asked else write_at h offset count asked bytes now choice
+  write_in h offset count asked bytes now choice
 
 -- ---- a directory's names
 
@@ -226,17 +231,17 @@ new_node k mode s cred d now f = record {
 
 -- the results of a making
 abbrev pub made : Node → MakeOk
-made n = record { object = Some (handle_to n); attributes = Some (attributes n); wcc = no_wcc }
+made n = record { object = Some (handle_text (handle_to n)); attributes = Some (attributes n); wcc = no_wcc }
 
 -- the object under a name of a directory
 abbrev pub making : Node → List ℕ → Node → Time → List Change
 making d name n now = PutNode d.fileid (with_name d n.kind now) ∷ PutName d.fileid name (entry_to n (cookie_in d)) ∷ PutNode n.fileid n ∷ []
 
 -- nothing is there yet (NFS3ERR_EXIST; `.` and `..` are always there)
-abbrev pub absent : Node → List ℕ → Plan (Unit {0})
-absent d name = do
+unfoldable pub absent : Handle → List ℕ → Plan (Unit {0})
+absent h name = do
   _ ← refuse (is_dots name) Exist
-  o ← find d.fileid name
+  o ← find h.fileid name
   refuse (is_some o) Exist
 
 -- a fileid is left for the object (NFS3ERR_NOSPC)
@@ -308,20 +313,19 @@ create_absent d name h cred now choice = do
   _ ← has_fileid choice
   Done (creating d name h cred now choice.fileid)
 
-abbrev pub create_at : Node → List ℕ → CreateHow → Cred → Time → Choice → Option Entry → Plan Outcome
+unfoldable pub create_at : Node → List ℕ → CreateHow → Cred → Time → Choice → Option Entry → Plan Outcome
 create_at d name h cred now choice None = create_absent d name h cred now choice
 create_at d name h cred now choice (Some e) = create_present e h now
 
-abbrev pub create : Cred → List ℕ → List ℕ → CreateHow → Time → Choice → Plan Outcome
-create cred dir name h now choice = do
-  to ← handle dir
+abbrev pub create : Cred → Handle → List ℕ → CreateHow → Time → Choice → Plan Outcome
+create cred to name h now choice = do
   _ ← checked name
   _ ← refuse (has_bad_time (given h)) Inval
   _ ← want (place to name)
   d ← directory cred to
   _ ← refuse (is_too_big (given h).size) FBig
   _ ← refuse (is_dots name) Exist
-  o ← find d.fileid name
+  o ← find to.fileid name
   create_at d name h cred now choice o
 
 -- ---- MKDIR (section 3.3.9)
@@ -333,14 +337,13 @@ making_directory d name s cred now f = record {
 }
 
 -- a given size is ignored
-abbrev pub mkdir : Cred → List ℕ → List ℕ → Sattr → Time → Choice → Plan Outcome
-mkdir cred dir name s now choice = do
-  to ← handle dir
+abbrev pub mkdir : Cred → Handle → List ℕ → Sattr → Time → Choice → Plan Outcome
+mkdir cred to name s now choice = do
   _ ← checked name
   _ ← refuse (has_bad_time s) Inval
   _ ← want (place to name)
   d ← directory cred to
-  _ ← absent d name
+  _ ← absent to name
   _ ← refuse (nat_le max_links d.nlink) MLink
   _ ← has_fileid choice
   Done (making_directory d name s cred now choice.fileid)
@@ -357,15 +360,14 @@ making_link d name s cred path now f = record {
 }
 
 -- a path of more than 1024 bytes is too long; a given size is ignored
-abbrev pub symlink : Cred → List ℕ → List ℕ → Sattr → List ℕ → Time → Choice → Plan Outcome
-symlink cred dir name s path now choice = do
-  to ← handle dir
+abbrev pub symlink : Cred → Handle → List ℕ → Sattr → List ℕ → Time → Choice → Plan Outcome
+symlink cred to name s path now choice = do
   _ ← checked name
   _ ← refuse (nat_lt 1024 (length path)) NameTooLong
   _ ← refuse (has_bad_time s) Inval
   _ ← want (place to name)
   d ← directory cred to
-  _ ← absent d name
+  _ ← absent to name
   _ ← has_fileid choice
   Done (making_link d name s cred path now choice.fileid)
 
@@ -406,15 +408,14 @@ making_special d name s cred now f = record {
 }
 
 -- a given size is ignored
-abbrev pub mknod : Cred → List ℕ → List ℕ → NodeData → Time → Choice → Plan Outcome
-mknod cred dir name w now choice = do
-  to ← handle dir
+abbrev pub mknod : Cred → Handle → List ℕ → NodeData → Time → Choice → Plan Outcome
+mknod cred to name w now choice = do
   _ ← checked name
   _ ← refuse (has_bad_special_time (special_of w)) Inval
   _ ← want (place to name)
   d ← directory cred to
   s ← special_or (special_of w)
-  _ ← absent d name
+  _ ← absent to name
   _ ← has_fileid choice
   Done (making_special d name s cred now choice.fileid)
 
@@ -437,14 +438,13 @@ unlinking d name n now = PutNode d.fileid (without_name d n.kind now) ∷ TakeNa
 abbrev pub removal : Node → List ℕ → Node → Time → Outcome
 removal d name n now = record { changes = unlinking d name n now; answer = reply.Remove ended.Ok no_wcc }
 
-abbrev pub remove : Cred → List ℕ → List ℕ → Time → Plan Outcome
-remove cred dir name now = do
-  h ← handle dir
+abbrev pub remove : Cred → Handle → List ℕ → Time → Plan Outcome
+remove cred h name now = do
   _ ← checked name
   _ ← want (place h name)
   d ← directory cred h
   _ ← refuse (is_dots name) Inval
-  e ← entry d.fileid name
+  e ← entry h.fileid name
   _ ← refuse (is_dir e.kind) IsDir
   n ← see e.fileid
   Done (removal d name n now)
@@ -452,15 +452,14 @@ remove cred dir name now = do
 abbrev pub directory_removal : Node → List ℕ → Node → Time → Outcome
 directory_removal d name n now = record { changes = unlinking d name n now; answer = reply.Rmdir ended.Ok no_wcc }
 
-abbrev pub rmdir : Cred → List ℕ → List ℕ → Time → Plan Outcome
-rmdir cred dir name now = do
-  h ← handle dir
+abbrev pub rmdir : Cred → Handle → List ℕ → Time → Plan Outcome
+rmdir cred h name now = do
   _ ← checked name
   _ ← want (place h name)
   d ← directory cred h
   _ ← refuse (is_dot name) Inval
   _ ← refuse (is_dot_dot name) Exist
-  e ← entry d.fileid name
+  e ← entry h.fileid name
   _ ← refuse (not (is_dir e.kind)) NotDir
   n ← see e.fileid
   _ ← refuse (not (n.entries == 0)) NotEmpty
@@ -469,7 +468,7 @@ rmdir cred dir name now = do
 -- ---- RENAME (section 3.3.14)
 
 -- the object at the new name, if there is one
-abbrev pub see_if : Option Entry → Plan (Option Node)
+unfoldable pub see_if : Option Entry → Plan (Option Node)
 see_if None = Done None
 see_if (Some e) = do
   n ← see e.fileid
@@ -491,7 +490,7 @@ is_full n d None = is_dir n.kind && nat_le max_links d.nlink
 is_full n d (Some t) = false
 
 -- Whether the directory is the moved one or below it. Within one directory nothing can come below itself.
-abbrev pub climbs : Bool → ℕ → ℕ → Plan Bool
+unfoldable pub climbs : Bool → ℕ → ℕ → Plan Bool
 climbs true a d = below a d
 climbs false a d = Done false
 
@@ -529,10 +528,12 @@ rename_to from name to to_name e o now = do
   _ ← refuse (not (from.fileid == to.fileid) && is_full n to t) MLink
   Done (renaming from name to to_name n t now)
 
-abbrev pub rename : Cred → List ℕ → List ℕ → List ℕ → List ℕ → Time → Plan Outcome
-rename cred from name to to_name now = do
-  a ← handle from
-  b ← handle to
+-- both names are of one object already, or it is moved
+unfoldable pub rename_in : Node → List ℕ → Node → List ℕ → Entry → Option Entry → Time → Plan Outcome
+rename_in from name to to_name e o now = if is_one e o then unchanged (reply.Rename ended.Ok no_wcc no_wcc) else rename_to from name to to_name e o now
+
+abbrev pub rename : Cred → Handle → List ℕ → Handle → List ℕ → Time → Plan Outcome
+rename cred a name b to_name now = do
   _ ← checked_both name to_name
   _ ← want (place a name ++ place b to_name)
   f ← live a
@@ -542,9 +543,9 @@ rename cred from name to to_name now = do
   _ ← granted cred f
   _ ← granted cred d
   _ ← refuse (is_dots name || is_dots to_name) Inval
-  e ← entry f.fileid name
-  o ← find d.fileid to_name
-  if is_one e o then unchanged (reply.Rename ended.Ok no_wcc no_wcc) else rename_to f name d to_name e o now
+  e ← entry a.fileid name
+  o ← find b.fileid to_name
+  rename_in f name d to_name e o now
 
 -- ---- LINK (section 3.3.15)
 
@@ -557,10 +558,8 @@ linking d name n now = record {
   answer = reply.Link ended.Ok (Some (attributes (with_more_links n now))) no_wcc;
 }
 
-abbrev pub link : Cred → List ℕ → List ℕ → List ℕ → Time → Plan Outcome
-link cred file dir name now = do
-  h ← handle file
-  to ← handle dir
+abbrev pub link : Cred → Handle → Handle → List ℕ → Time → Plan Outcome
+link cred h to name now = do
   _ ← checked name
   _ ← want (NodeKey h.fileid ∷ place to name)
   o ← live h
@@ -569,7 +568,7 @@ link cred file dir name now = do
   _ ← granted cred o
   _ ← granted cred d
   _ ← refuse (is_dir h.kind) Inval
-  _ ← absent d name
+  _ ← absent to name
   _ ← refuse (nat_le max_links o.nlink) MLink
   n ← see h.fileid
   Done (linking d name n now)

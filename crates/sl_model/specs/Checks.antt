@@ -49,12 +49,12 @@ abbrev pub is_bad : List ℕ → Bool
 is_bad name = length name == 0 || list_any (λ b. b == 47 || b == 0) name
 
 -- a name (NFS3ERR_NAMETOOLONG; that a bad one is NFS3ERR_ACCES is this server's choice)
-abbrev pub checked : List ℕ → Plan (Unit {0})
+unfoldable pub checked : List ℕ → Plan (Unit {0})
 checked name = do
   _ ← refuse (nat_lt 255 (length name)) NameTooLong
   refuse (is_bad name) Acces
 
-abbrev pub checked_both : List ℕ → List ℕ → Plan (Unit {0})
+unfoldable pub checked_both : List ℕ → List ℕ → Plan (Unit {0})
 checked_both a b = do
   _ ← refuse (nat_lt 255 (length a) || nat_lt 255 (length b)) NameTooLong
   refuse (is_bad a || is_bad b) Acces

@@ -5,3 +5,4 @@ pub mod Looking
 pub mod Changing
 pub mod Procedures
 pub mod Perform
+pub mod Laws

@@ -4,6 +4,7 @@ use Rattle.sl_types.specs.declared.kind.Kind.TheVariants as kind
 use Rattle.sl_types.specs.declared.kind.Status.TheVariants.{Inval, BadCookie, TooSmall}
 use Rattle.sl_types.specs.declared.attributes.Fattr.{Fattr}
 use Rattle.sl_types.specs.declared.cred.Cred.{Cred}
+use Rattle.sl_types.specs.declared.handle.Handle.{Handle}
 use Rattle.sl_types.specs.declared.entries.Entry as names
 use Rattle.sl_types.specs.declared.entries.EntryPlus as plus
 use Rattle.sl_types.specs.declared.reply.Wcc.{Wcc}
@@ -14,15 +15,18 @@ use Rattle.sl_model.specs.declared.node.Node.{Node}
 use Rattle.sl_model.specs.declared.node.Listed.{Listed}
 use Rattle.sl_model.specs.Plan.{Plan, Done, ◌>>=◌}
 use Rattle.sl_model.specs.Volume.{Change, PutNode, is_reg, is_lnk}
-use Rattle.sl_model.specs.Checks.{refuse, handle, checked, object, directory, see, entry, names_behind, text_of, bytes_of, verifier, want, place, is_dot, is_dot_dot}
+use Rattle.sl_model.specs.Checks.{refuse, checked, object, directory, see, entry, names_behind, text_of, bytes_of, verifier, want, place, is_dot, is_dot_dot}
 
 -- what a call answers, and what changes
 pub record Outcome : Type 0 where
   pub changes : List Change
   pub answer : Reply
 
+abbrev pub answering : Reply → Outcome
+answering r = record { changes = []; answer = r }
+
 abbrev pub unchanged : Reply → Plan Outcome
-unchanged r = Done (record { changes = []; answer = r })
+unchanged r = Done (answering r)
 
 -- ---- words
 
@@ -45,13 +49,13 @@ attributes n = record {
   ctime = n.ctime;
 }
 
--- the bytes of a node's handle
-abbrev pub handle_to : Node → List ℕ
-handle_to n = handle_text (record { volume = n.fsid; fileid = n.fileid; kind = n.kind })
+-- the handle of a node
+abbrev pub handle_to : Node → Handle
+handle_to n = record { volume = n.fsid; fileid = n.fileid; kind = n.kind }
 
--- and of a directory's, by its fileid
-abbrev pub directory_handle : ℕ → ℕ → List ℕ
-directory_handle volume f = handle_text (record { volume = volume; fileid = f; kind = kind.Dir })
+-- and of a directory, by its fileid
+abbrev pub directory_handle : ℕ → ℕ → Handle
+directory_handle volume f = record { volume = volume; fileid = f; kind = kind.Dir }
 
 -- no attributes
 abbrev pub no_wcc : Wcc
@@ -62,53 +66,49 @@ wcc_of n = record { after = Some (attributes n) }
 
 -- ---- GETATTR (RFC 1813, section 3.3.1)
 
-abbrev pub getattr : Cred → List ℕ → Plan Outcome
-getattr cred bytes = do
-  h ← handle bytes
+abbrev pub getattr : Cred → Handle → Plan Outcome
+getattr cred h = do
   _ ← object cred h
   n ← see h.fileid
   unchanged (reply.Getattr (Ok (attributes n)))
 
 -- ---- LOOKUP (section 3.3.3)
 
-abbrev pub found : List ℕ → Option Fattr → Plan Outcome
-found text attributes = unchanged (reply.Lookup (Ok (record { object = text; attributes = attributes; dir_attributes = None })))
+abbrev pub found : Handle → Option Fattr → Reply
+found object attributes = reply.Lookup (Ok (record { object = handle_text object; attributes = attributes; dir_attributes = None }))
 
 -- `..` is the parent, and the root's is the root; this server gives no attributes with it
-abbrev pub lookup_name : Node → List ℕ → Plan Outcome
-lookup_name d name = do
-  e ← entry d.fileid name
+abbrev pub lookup_name : Handle → List ℕ → Plan Outcome
+lookup_name h name = do
+  e ← entry h.fileid name
   n ← see e.fileid
-  found (handle_to n) (Some (attributes n))
+  unchanged (found (handle_to n) (Some (attributes n)))
 
-abbrev pub lookup_in : Node → List ℕ → Plan Outcome
-lookup_in d name =
-    if is_dot name then found (handle_to d) (Some (attributes d))
-    else if is_dot_dot name then found (directory_handle d.fsid d.parent) None
-    else lookup_name d name
+unfoldable pub lookup_in : Handle → Node → List ℕ → Plan Outcome
+lookup_in h d name =
+    if is_dot name then unchanged (found (handle_to d) (Some (attributes d)))
+    else if is_dot_dot name then unchanged (found (directory_handle d.fsid d.parent) None)
+    else lookup_name h name
 
-abbrev pub lookup : Cred → List ℕ → List ℕ → Plan Outcome
-lookup cred bytes name = do
-  h ← handle bytes
+abbrev pub lookup : Cred → Handle → List ℕ → Plan Outcome
+lookup cred h name = do
   _ ← checked name
   _ ← want (place h name)
   d ← directory cred h
-  lookup_in d name
+  lookup_in h d name
 
 -- ---- ACCESS (section 3.3.4): the asked ones of the six rights are granted
 
-abbrev pub access : Cred → List ℕ → ℕ → Plan Outcome
-access cred bytes bits = do
-  h ← handle bytes
+abbrev pub access : Cred → Handle → ℕ → Plan Outcome
+access cred h bits = do
   _ ← object cred h
   n ← see h.fileid
   unchanged (reply.Access (Ok (record { attributes = Some (attributes n); bits = bit_and bits 63 })))
 
 -- ---- READLINK (section 3.3.5)
 
-abbrev pub readlink : Cred → List ℕ → Plan Outcome
-readlink cred bytes = do
-  h ← handle bytes
+abbrev pub readlink : Cred → Handle → Plan Outcome
+readlink cred h = do
   n ← object cred h
   _ ← refuse (not (is_lnk h.kind)) Inval
   text ← text_of h.fileid
@@ -124,19 +124,21 @@ up_to_unit offset = 8192 - offset % 8192
 abbrev pub readable : Node → ℕ → ℕ → ℕ
 readable n offset count = min count (min (up_to_unit offset) (n.size - offset))
 
-abbrev pub read : Cred → List ℕ → ℕ → ℕ → Plan Outcome
-read cred bytes offset count = do
-  h ← handle bytes
+abbrev pub reading : Node → ℕ → ℕ → List ℕ → Outcome
+reading n offset count found = answering (reply.Read (Ok (record {
+  attributes = Some (attributes n);
+  count = readable n offset count;
+  eof = nat_le n.size (offset + readable n offset count);
+  bytes = found;
+})))
+
+abbrev pub read : Cred → Handle → ℕ → ℕ → Plan Outcome
+read cred h offset count = do
   _ ← object cred h
   _ ← refuse (not (is_reg h.kind)) Inval
   n ← see h.fileid
   found ← bytes_of h.fileid offset (readable n offset count)
-  unchanged (reply.Read (Ok (record {
-    attributes = Some (attributes n);
-    count = readable n offset count;
-    eof = nat_le n.size (offset + readable n offset count);
-    bytes = found;
-  })))
+  Done (reading n offset count found)
 
 -- ---- READDIR and READDIRPLUS (sections 3.3.16 and 3.3.17)
 
@@ -188,12 +190,11 @@ pub record Listing : Type 0 where
   pub lines : List Listed
   pub eof : Bool
 
-abbrev pub listing : Cred → List ℕ → ℕ → ℕ → ℕ → ℕ → Plan Listing
-listing cred bytes cookie verifier fixed count = do
-  h ← handle bytes
+abbrev pub listing : Cred → Handle → ℕ → ℕ → ℕ → ℕ → Plan Listing
+listing cred h cookie verifier fixed count = do
   d ← directory cred h
   _ ← refuse (not (verifier == 0)) BadCookie
-  names ← names_behind d.fileid cookie
+  names ← names_behind h.fileid cookie
   _ ← refuse (is_too_small (limit_of count) (fitting fixed (limit_of count - 20) (behind cookie (dots d) ++ names)) (behind cookie (dots d) ++ names)) TooSmall
   Done (record {
     directory = d;
@@ -201,28 +202,27 @@ listing cred bytes cookie verifier fixed count = do
     eof = same_length (fitting fixed (limit_of count - 20) (behind cookie (dots d) ++ names)) (behind cookie (dots d) ++ names);
   })
 
-abbrev pub readdir : Cred → List ℕ → ℕ → ℕ → ℕ → Plan Outcome
-readdir cred bytes cookie verifier count = do
-  l ← listing cred bytes cookie verifier 24 count
+abbrev pub readdir : Cred → Handle → ℕ → ℕ → ℕ → Plan Outcome
+readdir cred h cookie verifier count = do
+  l ← listing cred h cookie verifier 24 count
   unchanged (reply.Readdir (Ok (record { attributes = None; cookie_verifier = 0; entries = map name_line l.lines; eof = l.eof })))
 
 -- `dircount` isn't looked at, and `maxcount` is the limit; this server gives no attributes with the names
-abbrev pub readdirplus : Cred → List ℕ → ℕ → ℕ → ℕ → Plan Outcome
-readdirplus cred bytes cookie verifier maxcount = do
-  l ← listing cred bytes cookie verifier 68 maxcount
+abbrev pub readdirplus : Cred → Handle → ℕ → ℕ → ℕ → Plan Outcome
+readdirplus cred h cookie verifier maxcount = do
+  l ← listing cred h cookie verifier 68 maxcount
   unchanged (reply.Readdirplus (Ok (record { attributes = None; cookie_verifier = 0; entries = map (plus_line l.directory.fsid) l.lines; eof = l.eof })))
 
 -- ---- FSSTAT, FSINFO and PATHCONF (sections 3.3.18 to 3.3.20)
 
-abbrev pub told : Cred → List ℕ → Reply → Plan Outcome
-told cred bytes r = do
-  h ← handle bytes
+abbrev pub told : Cred → Handle → Reply → Plan Outcome
+told cred h r = do
   _ ← object cred h
   unchanged r
 
 -- there is always room: 2^50 bytes and 2^40 files
-abbrev pub fsstat : Cred → List ℕ → Plan Outcome
-fsstat cred bytes = told cred bytes (reply.Fsstat (Ok (record {
+abbrev pub fsstat : Cred → Handle → Plan Outcome
+fsstat cred h = told cred h (reply.Fsstat (Ok (record {
   attributes = None;
   total_bytes = 2 ^ 50;
   free_bytes = 2 ^ 50;
@@ -234,8 +234,8 @@ fsstat cred bytes = told cred bytes (reply.Fsstat (Ok (record {
 })))
 
 -- times are to the nanosecond; the properties are links, symbolic links, one PATHCONF for all, and times that can be set
-abbrev pub fsinfo : Cred → List ℕ → Plan Outcome
-fsinfo cred bytes = told cred bytes (reply.Fsinfo (Ok (record {
+abbrev pub fsinfo : Cred → Handle → Plan Outcome
+fsinfo cred h = told cred h (reply.Fsinfo (Ok (record {
   attributes = None;
   read_max = 8192;
   read_preferred = 8192;
@@ -249,8 +249,8 @@ fsinfo cred bytes = told cred bytes (reply.Fsinfo (Ok (record {
   properties = 27;
 })))
 
-abbrev pub pathconf : Cred → List ℕ → Plan Outcome
-pathconf cred bytes = told cred bytes (reply.Pathconf (Ok (record {
+abbrev pub pathconf : Cred → Handle → Plan Outcome
+pathconf cred h = told cred h (reply.Pathconf (Ok (record {
   attributes = None;
   link_max = 65000;
   name_max = 255;
@@ -262,11 +262,13 @@ pathconf cred bytes = told cred bytes (reply.Pathconf (Ok (record {
 
 -- ---- COMMIT (section 3.3.21): the whole file, which becomes its view; then it has no unstable write
 
-abbrev pub commit : Cred → List ℕ → Plan Outcome
-commit cred bytes = do
-  h ← handle bytes
+abbrev pub committing : Node → ℕ → Outcome
+committing n verifier = record { changes = PutNode n.fileid n ∷ []; answer = reply.Commit (Ok (record { wcc = wcc_of n; verifier = verifier })) }
+
+abbrev pub commit : Cred → Handle → Plan Outcome
+commit cred h = do
   _ ← object cred h
   _ ← refuse (not (is_reg h.kind)) Inval
   n ← see h.fileid
   v ← verifier
-  Done (record { changes = PutNode n.fileid n ∷ []; answer = reply.Commit (Ok (record { wcc = wcc_of n; verifier = v })) })
+  Done (committing n v)

@@ -14,14 +14,14 @@ use Rattle.sl_model.specs.Volume.{Volume, after_changes, sight}
 use Rattle.sl_model.specs.Looking.{Outcome}
 use Rattle.sl_model.specs.Procedures.{plan, fault}
 
--- the volume after an answer, and the reply
-abbrev pub ends : Volume → Call → Result Outcome Status → Volume × Reply
-ends v call (Ok o) = (after_changes o.changes v, o.answer)
-ends v call (Err s) = (v, fault call s)
+-- The volume after an answer, and the reply. A failure changes nothing.
+abbrev pub ends : Volume → (Status → Reply) → Result Outcome Status → Volume × Reply
+ends v fault (Ok o) = (after_changes o.changes v, o.answer)
+ends v fault (Err s) = (v, fault s)
 
 -- Perform: the volume after a call, and the reply to it (RFC 1813, section 3.3).
 unfoldable pub perform : Volume → Call → Cred → Time → Choice → Volume × Reply
-perform v call cred now choice = ends v call (run (sight v) (plan call cred now choice))
+perform v call cred now choice = ends v (fault call) (run (sight v) (plan call cred now choice))
 
 -- the mode of a new volume's root: 0755
 abbrev pub root_mode : ℕ

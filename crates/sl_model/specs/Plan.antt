@@ -73,6 +73,6 @@ run s (Verifier k) = run s (k s.verifier)
 run s (Want ks p) = run s p
 
 -- the rest of a plan, after what its first part ended with
-abbrev pub then : {A B : Type 0} → Result A Status → (A → Result B Status) → Result B Status
-then (Ok a) f = f a
-then (Err e) f = Err e
+abbrev pub and_then : {A B : Type 0} → Result A Status → (A → Result B Status) → Result B Status
+and_then (Ok a) f = f a
+and_then (Err e) f = Err e

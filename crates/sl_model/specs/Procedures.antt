@@ -1,42 +1,56 @@
 -- Each call's plan, and each procedure's failure.
-use Rattle.std.specs.Prelude.{None, Bool, true, false, Err}
+use Rattle.std.specs.Prelude.{ℕ, List, None, Bool, true, false, Err}
 use Rattle.sl_defs.specs.declared.setup.Time.{Time}
 use Rattle.sl_defs.specs.declared.note.Choice.{Choice}
 use Rattle.sl_types.specs.declared.kind.Status.{Status}
 use Rattle.sl_types.specs.declared.cred.Cred.{Cred}
+use Rattle.sl_types.specs.declared.handle.Handle.{Handle}
 use Rattle.sl_types.specs.declared.call.Call.{Call}
 use Rattle.sl_types.specs.declared.call.Call.TheVariants as call
 use Rattle.sl_types.specs.declared.reply.AttrFault.{AttrFault}
 use Rattle.sl_types.specs.declared.reply.WccFault.{WccFault}
 use Rattle.sl_types.specs.declared.reply.Reply.{Reply}
 use Rattle.sl_types.specs.declared.reply.Reply.TheVariants as reply
-use Rattle.sl_model.specs.Plan.{Plan}
+use Rattle.sl_model.specs.Plan.{Plan, ◌>>=◌}
+use Rattle.sl_model.specs.Checks.{handle}
 use Rattle.sl_model.specs.Looking.{Outcome, unchanged, getattr, lookup, access, readlink, read, readdir, readdirplus, fsstat, fsinfo, pathconf, commit, no_wcc}
 use Rattle.sl_model.specs.Changing.{setattr, write, create, mkdir, symlink, mknod, remove, rmdir, rename, link}
 
+-- The handles are read first (NFS3ERR_BADHANDLE).
+abbrev pub with_handle : List ℕ → (Handle → Plan Outcome) → Plan Outcome
+with_handle bytes f = do
+  h ← handle bytes
+  f h
+
+abbrev pub with_handles : List ℕ → List ℕ → (Handle → Handle → Plan Outcome) → Plan Outcome
+with_handles first second f = do
+  a ← handle first
+  b ← handle second
+  f a b
+
 abbrev pub plan : Call → Cred → Time → Choice → Plan Outcome
 plan call.Null cred now choice = unchanged reply.Null
-plan (call.Getattr object) cred now choice = getattr cred object
-plan (call.Setattr object attributes guard) cred now choice = setattr cred object attributes guard now
-plan (call.Lookup dir name) cred now choice = lookup cred dir name
-plan (call.Access object bits) cred now choice = access cred object bits
-plan (call.Readlink link) cred now choice = readlink cred link
-plan (call.Read file offset count) cred now choice = read cred file offset count
-plan (call.Write file offset count asked bytes) cred now choice = write cred file offset count asked bytes now choice
-plan (call.Create dir name how) cred now choice = create cred dir name how now choice
-plan (call.Mkdir dir name attributes) cred now choice = mkdir cred dir name attributes now choice
-plan (call.Symlink dir name attributes path) cred now choice = symlink cred dir name attributes path now choice
-plan (call.Mknod dir name what) cred now choice = mknod cred dir name what now choice
-plan (call.Remove dir name) cred now choice = remove cred dir name now
-plan (call.Rmdir dir name) cred now choice = rmdir cred dir name now
-plan (call.Rename from name to to_name) cred now choice = rename cred from name to to_name now
-plan (call.Link file dir name) cred now choice = link cred file dir name now
-plan (call.Readdir dir cookie verifier count) cred now choice = readdir cred dir cookie verifier count
-plan (call.Readdirplus dir cookie verifier dircount maxcount) cred now choice = readdirplus cred dir cookie verifier maxcount
-plan (call.Fsstat object) cred now choice = fsstat cred object
-plan (call.Fsinfo object) cred now choice = fsinfo cred object
-plan (call.Pathconf object) cred now choice = pathconf cred object
-plan (call.Commit file offset count) cred now choice = commit cred file
+plan (call.Getattr object) cred now choice = with_handle object (λ h. getattr cred h)
+plan (call.Setattr object attributes guard) cred now choice = with_handle object (λ h. setattr cred h attributes guard now)
+plan (call.Lookup dir name) cred now choice = with_handle dir (λ h. lookup cred h name)
+plan (call.Access object bits) cred now choice = with_handle object (λ h. access cred h bits)
+plan (call.Readlink link) cred now choice = with_handle link (λ h. readlink cred h)
+plan (call.Read file offset count) cred now choice = with_handle file (λ h. read cred h offset count)
+plan (call.Write file offset count asked bytes) cred now choice = with_handle file (λ h. write cred h offset count asked bytes now choice)
+plan (call.Create dir name how) cred now choice = with_handle dir (λ h. create cred h name how now choice)
+plan (call.Mkdir dir name attributes) cred now choice = with_handle dir (λ h. mkdir cred h name attributes now choice)
+plan (call.Symlink dir name attributes path) cred now choice = with_handle dir (λ h. symlink cred h name attributes path now choice)
+plan (call.Mknod dir name what) cred now choice = with_handle dir (λ h. mknod cred h name what now choice)
+plan (call.Remove dir name) cred now choice = with_handle dir (λ h. remove cred h name now)
+plan (call.Rmdir dir name) cred now choice = with_handle dir (λ h. rmdir cred h name now)
+plan (call.Rename from name to to_name) cred now choice = with_handles from to (λ a b. rename cred a name b to_name now)
+plan (call.Link file dir name) cred now choice = with_handles file dir (λ h to. link cred h to name now)
+plan (call.Readdir dir cookie verifier count) cred now choice = with_handle dir (λ h. readdir cred h cookie verifier count)
+plan (call.Readdirplus dir cookie verifier dircount maxcount) cred now choice = with_handle dir (λ h. readdirplus cred h cookie verifier maxcount)
+plan (call.Fsstat object) cred now choice = with_handle object (λ h. fsstat cred h)
+plan (call.Fsinfo object) cred now choice = with_handle object (λ h. fsinfo cred h)
+plan (call.Pathconf object) cred now choice = with_handle object (λ h. pathconf cred h)
+plan (call.Commit file offset count) cred now choice = with_handle file (λ h. commit cred h)
 
 -- a failure has no attributes (RFC 1813, section 3.3: they are optional in each)
 abbrev pub attr_fault : Status → AttrFault

@@ -13,7 +13,6 @@ use Rattle.sl_types.specs.declared.kind.Kind.TheVariants as kind
 use Rattle.sl_model.specs.declared.node.Node.{Node}
 use Rattle.sl_model.specs.declared.node.Entry.{Entry}
 use Rattle.sl_model.specs.declared.node.Listed.{Listed}
-use Rattle.sl_model.specs.declared.node.Unstable.{Unstable}
 use Rattle.sl_model.specs.Plan.{Sight}
 
 -- names are in the order of their directories, and then of their bytes
@@ -23,6 +22,13 @@ name_cmp a b = ordering_then (nat_cmp a.0 b.0) (slice_cmp nat_cmp a.1 b.1)
 -- and bytes in the order of their files, and then of their offsets
 abbrev pub place_cmp : ℕ × ℕ → ℕ × ℕ → Ordering
 place_cmp a b = ordering_then (nat_cmp a.0 b.0) (nat_cmp a.1 b.1)
+
+-- a write of bytes to a file, from an offset on and at a moment, that isn't stable yet (RFC 1813, section 3.3.7)
+pub record Unstable : Type 0 where
+  pub fileid : ℕ
+  pub offset : ℕ
+  pub bytes : List ℕ
+  pub moment : Time
 
 -- A volume (RFC 1813, section 1.5: the file system behind the handles; section 2.6 for the attributes of a node).
 pub record Volume : Type 0 where
@@ -163,12 +169,15 @@ abbrev pub placed : Listed → List Listed → List Listed
 placed x [] = x ∷ []
 placed x (y ∷ ys) = if nat_lt y.cookie x.cookie then y ∷ placed x ys else x ∷ y ∷ ys
 
--- a directory's names whose cookies are above the given one, by rising cookie
-abbrev pub listed : ℕ → ℕ → List ((ℕ × List ℕ) × Entry) → List Listed
-listed d cookie [] = []
-listed d cookie (e ∷ es) =
-    if e.0.0 == d && nat_lt cookie e.1.cookie then placed (record { name = e.0.1; fileid = e.1.fileid; kind = e.1.kind; cookie = e.1.cookie }) (listed d cookie es)
-    else listed d cookie es
+-- a list with one name more, where that name is of the directory and its cookie above the given one
+abbrev pub listing_with : ℕ → ℕ → (ℕ × List ℕ) × Entry → List Listed → List Listed
+listing_with d cookie e xs =
+    if e.0.0 == d && nat_lt cookie e.1.cookie then placed (record { name = e.0.1; fileid = e.1.fileid; kind = e.1.kind; cookie = e.1.cookie }) xs else xs
+
+-- a directory's names whose cookies are above the given one, by rising cookie, put one after another into a list
+abbrev pub listed : ℕ → ℕ → List Listed → List ((ℕ × List ℕ) × Entry) → List Listed
+listed d cookie xs [] = xs
+listed d cookie xs (e ∷ es) = listed d cookie (listing_with d cookie e xs) es
 
 -- ---- what can be looked up in a volume
 
@@ -190,7 +199,7 @@ sight v = record {
   see = λ f. seen v f;
   find = λ d name. map.get v.names (d, name);
   below = λ a d. below_within (suc (map.len v.nodes)) v.nodes a d;
-  names = λ d cookie. listed d cookie (map.entries v.names);
+  names = λ d cookie. listed d cookie [] (map.entries v.names);
   text = λ f. unwrap_or (map.get v.texts f) [];
   bytes = λ f at count. bytes_from v f at count;
   verifier = v.verifier;

@@ -3,6 +3,8 @@
 //! `specs/` has the definition: a volume, each procedure as a plan of look-ups, and what a call does to a volume.
 #![tactic(auto)]
 
+mod laws;
 mod node;
 
-pub use node::{Entry, Listed, Node, Unstable};
+pub use laws::{cuts_bytes, failure_keeps, grows_by_zeros, reading_keeps};
+pub use node::{Entry, Listed, Node};

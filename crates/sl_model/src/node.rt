@@ -1,4 +1,4 @@
-use sl_defs::{Bytes, Time};
+use sl_defs::Time;
 use sl_types::{Kind, Name};
 
 /// An object: its attributes (RFC 1813, section 2.6, `fattr3`), and what the server keeps beside them.
@@ -47,13 +47,4 @@ pub struct Listed {
     pub fileid: u64,
     pub kind: Kind,
     pub cookie: u64,
-}
-
-/// A write of bytes to a file, from an offset on and at a moment, that isn't stable yet.
-#[derive(Drop, Debug)]
-pub struct Unstable {
-    pub fileid: u64,
-    pub offset: u64,
-    pub bytes: Bytes,
-    pub moment: Time,
 }
