@@ -1,5 +1,5 @@
 -- What holds of one server.
-use Rattle.std.specs.Prelude.{◌≡◌, ◌≢◌, ℕ, ◌≤◌, Bool, true, Option, None, Result, Ok, Err}
+use Rattle.std.specs.Prelude.{◌≡◌, ◌≢◌, ℕ, ◌≤◌, List, [], Bool, true, Option, None, Result, Ok, Err}
 use Rattle.sl_defs.specs.declared.setup.Time.{Time}
 use Rattle.sl_defs.specs.declared.note.Choice.{Choice}
 use Rattle.sl_types.specs.declared.kind.Status.{Status}
@@ -11,8 +11,11 @@ use Rattle.sl_types.specs.declared.reply.Reply.TheVariants as reply
 use Rattle.sl_types.specs.declared.reply.AttrFault.{AttrFault}
 use Rattle.sl_types.specs.declared.reply.WccFault.{WccFault}
 use Rattle.sl_model.specs.declared.node.Node.{Node}
-use Rattle.sl_model.specs.Volume.{Volume, PutNode, changed, byte_at}
-use Rattle.sl_model.specs.Procedures.{is_reading}
+use Rattle.sl_model.specs.Volume.{Volume, Change, PutNode, changed, after_changes, restart, byte_at}
+use Rattle.sl_model.specs.Looking.{Outcome}
+use Rattle.sl_model.specs.Tree.{Tree}
+use Rattle.sl_model.specs.Gathered.{Gathered, Gathers, IsClear, needs_of, effect_of, cells_of, cells_after}
+use Rattle.sl_model.specs.Procedures.{is_reading, plan}
 use Rattle.sl_model.specs.Perform.{perform}
 
 abbrev pub attr_status : {A : Type 0} → Result A AttrFault → Status
@@ -67,3 +70,20 @@ CutsBytes = (v : Volume) (f : ℕ) (n : Node) (at : ℕ) → n.size ≤ at → b
 -- And they stay zero where the file then grows.
 abbrev pub GrowsByZeros : Type 0
 GrowsByZeros = (v : Volume) (f : ℕ) (less more : Node) (at : ℕ) → less.size ≤ at → byte_at (changed (PutNode f more) (changed (PutNode f less) v)) f at ≡ 0
+
+-- What a call answers from gathered cells, and leaves in them, is what it answers and leaves in the volume that they are of.
+pub record IsRight (v : Volume) (effect : Outcome) (after : Volume × Reply) : Type 0 where
+  pub reply : effect.answer ≡ after.1
+  pub cells : cells_after effect.changes (cells_of v) ≡ cells_of after.0
+
+abbrev pub CellsSuffice : Type 0
+CellsSuffice = (v : Volume) (g : Gathered) (c : Call) (cred : Cred) (now : Time) (choice : Choice) → Tree v → Gathers g v → IsClear v (plan c cred now choice)
+    → needs_of g c cred now choice ≡ [] → IsRight v (effect_of g c cred now choice) (perform v c cred now choice)
+
+-- The cells after any changes are those of the volume after them.
+abbrev pub CellsFollow : Type 0
+CellsFollow = (v : Volume) (cs : List Change) → cells_after cs (cells_of v) ≡ cells_of (after_changes cs v)
+
+-- A restart leaves a tree a tree.
+abbrev pub RestartKeepsTree : Type 0
+RestartKeepsTree = (v : Volume) (verifier : ℕ) → Tree v → Tree (restart verifier v)

@@ -5,4 +5,6 @@ pub mod Looking
 pub mod Changing
 pub mod Procedures
 pub mod Perform
+pub mod Tree
+pub mod Gathered
 pub mod Laws

@@ -6,5 +6,8 @@
 mod laws;
 mod node;
 
-pub use laws::{cuts_bytes, failure_keeps, grows_by_zeros, reading_keeps};
+pub use laws::{
+    cells_follow, cells_suffice, cuts_bytes, failure_keeps, grows_by_zeros, reading_keeps,
+    restart_keeps_tree,
+};
 pub use node::{Entry, Listed, Node};
