@@ -1,14 +1,13 @@
 -- A plan over what was gathered answers as it does over the volume.
-use Rattle.std.proofs.Common.{◌≡◌, ℕ, zero, suc, ◌+◌, ◌<◌, List, [], ◌∷◌, length, Option, Some, None, Bool, true, false, cond, Result, refl, sym, ap, subst, ◌∙◌, arith, inl, inr}
-use Rattle.std.specs.Prelude.{◌==◌, ◌⊎◌, ◌||◌, ◌≢◌}
+use Rattle.std.proofs.Common.{◌≡◌, ℕ, zero, suc, ◌+◌, ◌<◌, List, [], ◌∷◌, length, Option, Some, None, Bool, true, false, cond, refl, sym, ap, subst, ◌∙◌, arith, inl, inr}
+use Rattle.std.specs.Prelude.{◌==◌, ◌||◌}
 use Rattle.std.proofs.lemmas.Bool.{eqb-false}
 use Rattle.std.specs.FinMap as map
-use Rattle.sl_types.specs.declared.kind.Status.{Status}
 use Rattle.sl_model.specs.declared.node.Node.{Node}
 use Rattle.sl_model.specs.declared.node.Entry.{Entry}
-use Rattle.sl_model.specs.Plan.{Plan, Done, Stop, Look, See, Find, Climb, Names, Text, Bytes, Verifier, Want, Key, NodeKey, NameKey, Sight, run}
+use Rattle.sl_model.specs.Plan.{Plan, Done, Stop, Look, See, Find, Climb, Names, Text, Bytes, Verifier, Want, Key, run}
 use Rattle.sl_model.specs.Volume.{Volume, Unstable, sight, seen, seen_as, after_writes, written_to, below_within, below_on}
-use Rattle.sl_model.specs.Gathered.{Gathered, Cell, missing, or_next, node_in, name_in, Climbed, Ends, Wants, climb_on, climbed, ended, known, sight_in, wants_node, wants_name, wants_climb, wanted, Gathers, is_unstable, IsClear}
+use Rattle.sl_model.specs.Gathered.{Gathered, missing, or_next, node_in, name_in, Climbed, Ends, Wants, climb_on, climbed, ended, known, sight_in, wants_node, wants_name, wants_climb, wanted, Gathers, is_unstable, IsClear}
 use Rattle.sl_model.specs.Tree.{Path}
 
 pub or_false : (a b : Bool) → (a || b) ≡ false → (a ≡ false) × (b ≡ false)

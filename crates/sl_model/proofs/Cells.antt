@@ -1,19 +1,18 @@
 -- The cells of a volume.
-use Rattle.std.proofs.Common.{◌≡◌, ◌<◌, ◌+◌, ℕ, suc, List, [], ◌∷◌, Option, Some, None, Result, Ok, Err, refl, sym, ap, subst, ◌∙◌, arith}
+use Rattle.std.proofs.Common.{◌≡◌, ℕ, [], ◌∷◌, Option, Some, None, Result, Ok, Err, refl, sym, ap, subst, ◌∙◌, arith}
 use Rattle.std.proofs.lemmas.Cmp.{nat_cmp_total}
 use Rattle.std.proofs.lemmas.Map.Lookups.{exact_unsigned}
-use Rattle.std.specs.FinMap.{FinMap, insert, len}
-use Rattle.sl_defs.specs.declared.setup.Time.{Time}
+use Rattle.std.specs.FinMap.{insert}
 use Rattle.sl_types.specs.declared.kind.Status.{Status}
 use Rattle.sl_types.specs.declared.reply.Reply.{Reply}
 use Rattle.sl_model.specs.declared.node.Node.{Node}
 use Rattle.sl_model.specs.Plan.{run}
-use Rattle.sl_model.specs.Volume.{Volume, Change, PutNode, TakeNode, PutName, TakeName, PutText, PutBytes, AddWrite, changed, after_changes, seen, put_seen, sight, restart}
+use Rattle.sl_model.specs.Volume.{Volume, Change, PutNode, TakeNode, PutName, TakeName, PutText, PutBytes, AddWrite, changed, seen, put_seen, sight}
 use Rattle.sl_model.specs.Looking.{Outcome}
 use Rattle.sl_model.specs.Procedures.{plan, fault}
 use Rattle.sl_model.specs.Perform.{ends, perform}
 use Rattle.sl_model.specs.Gathered.{cells_of, changed_cells, cells_after, effect_from, VolumeCells}
-use Rattle.sl_model.specs.Tree.{Tree, Nodes}
+use Rattle.sl_model.specs.Tree.{Nodes}
 use Rattle.sl_model.specs.Laws.{IsRight, CellsSuffice, CellsFollow, RestartKeepsTree}
 use Rattle.sl_model.proofs.MapSteps.{insert_over}
 use Rattle.sl_model.proofs.Paths.{path_bound}

@@ -1,11 +1,10 @@
 -- What changes nothing.
-use Rattle.std.proofs.Common.{◌≡◌, ℕ, List, [], ◌∷◌, Option, Some, None, Bool, true, false, Result, Ok, Err, refl, ap, cond}
+use Rattle.std.proofs.Common.{◌≡◌, ℕ, List, [], Option, Some, None, Bool, true, false, Result, Ok, Err, refl, ap, cond}
 use Rattle.std.specs.Prelude.{◌≢◌, ◌==◌, ◌&&◌, not, take}
 use Rattle.sl_defs.specs.declared.setup.Time.{Time}
 use Rattle.sl_defs.specs.declared.note.Choice.{Choice}
 use Rattle.sl_types.specs.declared.kind.Status.{Status}
 use Rattle.sl_types.specs.declared.kind.Status.TheVariants as status
-use Rattle.sl_types.specs.declared.attributes.Sattr.{Sattr}
 use Rattle.sl_types.specs.declared.call.Stable.{Stable}
 use Rattle.sl_types.specs.declared.call.CreateHow.{CreateHow}
 use Rattle.sl_types.specs.declared.cred.Cred.{Cred}
@@ -14,11 +13,11 @@ use Rattle.sl_types.specs.declared.call.Call.{Call}
 use Rattle.sl_types.specs.declared.call.Call.TheVariants as call
 use Rattle.sl_model.specs.declared.node.Node.{Node}
 use Rattle.sl_model.specs.declared.node.Entry.{Entry}
-use Rattle.sl_model.specs.Plan.{Plan, Sight, run, Done}
-use Rattle.sl_model.specs.Volume.{Volume, sight, after_changes}
+use Rattle.sl_model.specs.Plan.{run}
+use Rattle.sl_model.specs.Volume.{sight, after_changes}
 use Rattle.sl_model.specs.Checks.{is_dot, is_dot_dot}
-use Rattle.sl_model.specs.Looking.{Outcome, unchanged, lookup_in, lookup_name}
-use Rattle.sl_model.specs.Changing.{write_in, write_at, write_none, is_unstable, unstable_write, stable_write, writing, writable, create_at, create_present, create_absent, rename_in, rename_to, is_one}
+use Rattle.sl_model.specs.Looking.{Outcome, lookup_in}
+use Rattle.sl_model.specs.Changing.{write_in, is_unstable, unstable_write, stable_write, writing, writable, create_at, rename_in, is_one}
 use Rattle.sl_model.specs.Procedures.{plan, fault, is_reading}
 use Rattle.sl_model.specs.Perform.{ends, perform}
 use Rattle.sl_model.specs.Laws.{status_of, ReadingKeeps, FailureKeeps}

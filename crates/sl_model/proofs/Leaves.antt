@@ -1,5 +1,5 @@
 -- What holds of each end of a plan holds of its answer.
-use Rattle.std.proofs.Common.{◌≡◌, ℕ, List, Option, Some, None, Bool, true, false, Result, Ok, Err, refl, subst}
+use Rattle.std.proofs.Common.{◌≡◌, ℕ, List, Option, Bool, true, false, Result, Ok, subst}
 use Rattle.std.specs.Prelude.{if◌then◌else◌}
 use Rattle.sl_types.specs.declared.kind.Status.{Status}
 use Rattle.sl_model.specs.declared.node.Node.{Node}

@@ -1,13 +1,11 @@
 -- Bytes past a cut.
-use Rattle.std.proofs.Common.{◌≡◌, ℕ, ◌+◌, ◌-◌, ◌≤◌, ◌<◌, List, [], ◌∷◌, Option, Some, None, Bool, true, false, cond, refl, sym, ap, ◌∙◌, arith, length}
+use Rattle.std.proofs.Common.{◌≡◌, ℕ, ◌+◌, ◌-◌, ◌≤◌, List, [], ◌∷◌, Option, None, Bool, true, false, cond, refl, sym, ap, ◌∙◌, arith, length}
 use Rattle.std.specs.Prelude.{◌==◌, ◌&&◌, ◌||◌, not, nat_lt, nat_le, slice_index}
 use Rattle.std.specs.Option.{unwrap_or}
-use Rattle.std.specs.Cmp.Lexicographic.{slice_cmp}
 use Rattle.std.specs.Ordering.{nat_cmp}
 use Rattle.std.proofs.lemmas.Map.Lookups.{CmpEqualImpliesEq, exact_pairs, exact_unsigned}
 use Rattle.std.specs.FinMap.{FinMap, get, get-retain_keys}
-use Rattle.sl_model.specs.declared.node.Node.{Node}
-use Rattle.sl_model.specs.Volume.{Volume, Unstable, place_cmp, byte_after, byte_after_write, byte_at, put_bytes, put_writes, without_file, cut_at, changed, PutNode}
+use Rattle.sl_model.specs.Volume.{Unstable, place_cmp, byte_after, byte_after_write, put_bytes, put_writes, without_file, cut_at}
 use Rattle.sl_model.specs.Laws.{CutsBytes, GrowsByZeros}
 
 exact_places : CmpEqualImpliesEq place_cmp

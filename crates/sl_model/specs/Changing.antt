@@ -26,7 +26,7 @@ use Rattle.sl_types.specs.Handles.{handle_text}
 use Rattle.sl_model.specs.declared.node.Node.{Node}
 use Rattle.sl_model.specs.declared.node.Entry.{Entry}
 use Rattle.sl_model.specs.Plan.{Plan, Done, Stop, NodeKey, ◌>>=◌}
-use Rattle.sl_model.specs.Volume.{Unstable, Change, PutNode, TakeNode, PutName, TakeName, PutText, PutBytes, AddWrite, written_to, is_dir, is_reg}
+use Rattle.sl_model.specs.Volume.{Change, PutNode, TakeNode, PutName, TakeName, PutText, PutBytes, AddWrite, written_to, is_dir, is_reg}
 use Rattle.sl_model.specs.Checks.{refuse, checked, checked_both, has_bad_time, live, in_directory, granted, object, directory, see, entry, find, below, verifier, want, place, is_dots, is_dot, is_dot_dot}
 use Rattle.sl_model.specs.Looking.{Outcome, unchanged, attributes, handle_to, no_wcc, wcc_of, up_to_unit}
 

@@ -1,9 +1,9 @@
 -- The procedures that change something, step by step.
-use Rattle.std.proofs.Common.{◌≡◌, ℕ, List, Option, Some, None, Bool, Result, Ok, Err}
+use Rattle.std.proofs.Common.{◌≡◌, ℕ, List, Option, Ok}
 use Rattle.std.specs.Prelude.{◌||◌, ◌&&◌, ◌==◌, nat_lt, nat_le, length, not, is_some, take}
 use Rattle.sl_defs.specs.declared.setup.Time.{Time}
 use Rattle.sl_defs.specs.declared.note.Choice.{Choice}
-use Rattle.sl_types.specs.declared.kind.Status.TheVariants.{Exist, IsDir, Inval, FBig, NoSpc, MLink, NotDir, NotEmpty, NotSync, NameTooLong, BadType}
+use Rattle.sl_types.specs.declared.kind.Status.TheVariants.{Exist, IsDir, Inval, FBig, NoSpc, MLink, NotDir, NotEmpty, NotSync, NameTooLong}
 use Rattle.sl_types.specs.declared.attributes.Sattr.{Sattr}
 use Rattle.sl_types.specs.declared.call.Stable.{Stable}
 use Rattle.sl_types.specs.declared.call.CreateHow.{CreateHow}
@@ -83,7 +83,6 @@ rename_to_run eye from name to to_name e o now = simp runs
 pub rename_run : (eye : Sight) (cred : Cred) (a : Handle) (name : List ℕ) (b : Handle) (to_name : List ℕ) (now : Time) → run eye (rename cred a name b to_name now) ≡
     and_then (checked_names name to_name) (λ u. and_then (run eye (live a)) (λ f. and_then (run eye (live b)) (λ d. and_then (refused (not (is_dir a.kind)) NotDir) (λ u. and_then (refused (not (is_dir b.kind)) NotDir) (λ u. and_then (refused (is_dots name || is_dots to_name) Inval) (λ u. and_then (run eye (entry a.fileid name)) (λ e. run eye (rename_in f name d to_name e (eye.find b.fileid to_name) now))))))))
 rename_run eye cred a name b to_name now = simp runs
-
 
 pub absent_run : (eye : Sight) (h : Handle) (name : List ℕ) → run eye (absent h name) ≡
     and_then (refused (is_dots name) Exist) (λ u. refused (is_some (eye.find h.fileid name)) Exist)

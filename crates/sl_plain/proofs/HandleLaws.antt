@@ -1,5 +1,5 @@
 -- A handle's text, item by item.
-use Rattle.std.proofs.Common.{◌≡◌, ℕ, List, ◌++◌, refl, ap, ◌∙◌, append_assoc}
+use Rattle.std.proofs.Common.{◌≡◌, ℕ, List, ◌++◌, refl, ap, append_assoc}
 use Rattle.std.specs.Prelude.{codes}
 use Rattle.sl_defs.specs.Items.{u32_text, u64_text}
 use Rattle.sl_types.specs.declared.handle.Handle.{Handle}

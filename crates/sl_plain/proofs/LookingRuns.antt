@@ -1,12 +1,11 @@
 -- The procedures that look, step by step.
-use Rattle.std.proofs.Common.{◌≡◌, ℕ, ◌-◌, List, [], ◌∷◌, ◌++◌, Option, Some, None, Bool, Result, Ok, Err, refl}
-use Rattle.std.specs.Prelude.{◌||◌, ◌==◌, nat_lt, length, not, bit_and}
+use Rattle.std.proofs.Common.{◌≡◌, ℕ, ◌-◌, List, ◌++◌, Some, Ok}
+use Rattle.std.specs.Prelude.{◌==◌, not, bit_and}
 use Rattle.sl_types.specs.declared.kind.Status.TheVariants.{NotDir, Inval, BadCookie, TooSmall}
 use Rattle.sl_types.specs.declared.cred.Cred.{Cred}
 use Rattle.sl_types.specs.declared.handle.Handle.{Handle}
 use Rattle.sl_types.specs.declared.reply.Reply.{Reply}
 use Rattle.sl_types.specs.declared.reply.Reply.TheVariants as reply
-use Rattle.sl_model.specs.declared.node.Node.{Node}
 use Rattle.sl_model.specs.Plan.{Sight, run, and_then}
 use Rattle.sl_model.specs.Volume.{is_dir, is_reg, is_lnk}
 use Rattle.sl_model.specs.Checks.{live, see, entry, object, directory}
@@ -47,7 +46,7 @@ pub read_run : (eye : Sight) (cred : Cred) (h : Handle) (offset : ℕ) (count : 
 read_run eye cred h offset count = simp runs
 
 pub listing_run : (eye : Sight) (cred : Cred) (h : Handle) (cookie : ℕ) (verifier : ℕ) (fixed : ℕ) (count : ℕ) → run eye (listing cred h cookie verifier fixed count) ≡
-    and_then (run eye (directory cred h)) (λ d. and_then (refused (not (verifier == 0)) BadCookie) (λ u. and_then (refused (is_too_small (limit_of count) (fitting fixed (limit_of count - 20) (behind cookie (dots d) ++ (eye.names h.fileid cookie))) (behind cookie (dots d) ++ (eye.names h.fileid cookie))) TooSmall) (λ u. Ok ((record { directory = d; lines = fitting fixed (limit_of count - 20) (behind cookie (dots d) ++ (eye.names h.fileid cookie)); eof = same_length (fitting fixed (limit_of count - 20) (behind cookie (dots d) ++ (eye.names h.fileid cookie))) (behind cookie (dots d) ++ (eye.names h.fileid cookie)); })))))
+    and_then (run eye (directory cred h)) (λ d. and_then (refused (not (verifier == 0)) BadCookie) (λ u. and_then (refused (is_too_small (limit_of count) (fitting fixed (limit_of count - 20) (behind cookie (dots d) ++ (eye.names h.fileid cookie))) (behind cookie (dots d) ++ (eye.names h.fileid cookie))) TooSmall) (λ u. Ok ((record { directory = d; lines = fitting fixed (limit_of count - 20) (behind cookie (dots d) ++ (eye.names h.fileid cookie)); eof = same_length (fitting fixed (limit_of count - 20) (behind cookie (dots d) ++ (eye.names h.fileid cookie))) (behind cookie (dots d) ++ (eye.names h.fileid cookie)) })))))
 listing_run eye cred h cookie verifier fixed count = simp runs
 
 pub told_run : (eye : Sight) (cred : Cred) (h : Handle) (r : Reply) → run eye (told cred h r) ≡
@@ -57,4 +56,3 @@ told_run eye cred h r = simp runs
 pub commit_run : (eye : Sight) (cred : Cred) (h : Handle) → run eye (commit cred h) ≡
     and_then (run eye (object cred h)) (λ u. and_then (refused (not (is_reg h.kind)) Inval) (λ u. and_then (run eye (see h.fileid)) (λ n. Ok ((committing n eye.verifier)))))
 commit_run eye cred h = simp runs
-

@@ -1,19 +1,17 @@
 -- A tree map's entries, and the finite map that they make.
-use Rattle.std.proofs.Common.{◌≡◌, ℕ, List, [], ◌∷◌, Option, Some, None, Bool, true, false, cond, refl, sym, ap, subst, ◌∙◌}
-use Rattle.std.specs.Prelude.{filter, map, T, ◌&&◌}
-use Rattle.std.specs.Map.{lookup, remove_entry, keys_of}
-use Rattle.std.specs.List.{AllByRecursion}
-use Rattle.std.specs.List.Sorted.{IsStrictlySortedBy}
+use Rattle.std.proofs.Common.{◌≡◌, List, [], ◌∷◌, Option, Some, None, Bool, true, false, cond, refl, sym, ap, ◌∙◌}
+use Rattle.std.specs.Prelude.{filter, map}
+use Rattle.std.specs.Map.{lookup, remove_entry}
 use Rattle.std.specs.BTreeMap.{is_at, insert_entry}
 use Rattle.std.specs.declared.cmp.Ordering.{Ordering}
 use Rattle.std.specs.declared.cmp.Ordering.TheVariants.{Less, Equal, Greater}
 use Rattle.std.specs.Cmp.{IsTotalOrder}
 use Rattle.std.specs.Cmp.Lexicographic.{slice_cmp}
-use Rattle.std.specs.Ordering.{nat_cmp, ordering_then, eq_by_cmp, is_eq, is_lt, match_ordering}
+use Rattle.std.specs.Ordering.{nat_cmp, eq_by_cmp, is_eq, match_ordering}
 use Rattle.std.proofs.lemmas.Cmp.{eq_by_cmp_equiv, nat_cmp_total, nat_list_cmp_total, then_total, on_total}
 use Rattle.std.proofs.lemmas.Map.Lookups.{CmpEqualImpliesEq, exact_pairs, exact_unsigned, exact_bytes}
-use Rattle.std.specs.FinMap.{FinMap, get, insert, remove, from_entries, get-from_entries, get-insert, get-remove, get-retain_keys, retain_keys, same_map, entries, from_sorted, get-entries, entries-from_sorted}
-use Rattle.std.specs.FinMap.Entries.{find, put, find-put, by_order, is_sorted, below_all}
+use Rattle.std.specs.FinMap.{get, insert, remove, from_entries, get-from_entries, get-insert, get-remove, get-retain_keys, retain_keys, same_map}
+use Rattle.std.specs.FinMap.Entries.{find, put, find-put, by_order}
 use Rattle.sl_model.specs.Volume.{name_cmp, place_cmp}
 use Rattle.sl_model.specs.declared.node.Entry.{Entry}
 use Rattle.sl_plain.specs.declared.names.Place.{Place}
@@ -66,6 +64,7 @@ taken {K = K} {X = X} R o x es k none = same_map o x _ _ (λ q.
         is_equal Equal t = refl
         is_equal Less t = cc
         is_equal Greater t = cc
+
     at : (q : K) → lookup (is_at (R q)) (remove_entry (is_at (R k)) es) ≡ cond (eq_by_cmp R q k) None (lookup (is_at (R q)) es)
     at q =
         elim (eq_by_cmp R q k) as (λ b. eq_by_cmp R q k ≡ b → lookup (is_at (R q)) (remove_entry (is_at (R k)) es) ≡ cond b None (lookup (is_at (R q)) es)) [
@@ -96,7 +95,7 @@ pub insert_named : (es : List (Place × Entry)) (k : Place) (v : Entry) → map 
 insert_named [] k v = refl
 insert_named (e ∷ es) k v =
     elim (place_order k e.0) as (λ r. map named (match_ordering r ((k, v) ∷ e ∷ es) ((e.0, v) ∷ es) (e ∷ insert_entry place_order es k v))
-        ≡ match_ordering r (((k.dir, k.name.items), v) ∷ named e ∷ map named es) (((e.0.dir, e.0.name.items), v) ∷ map named es) (named e ∷ insert_entry name_cmp (map named es) (k.dir, k.name.items) v)) [
+    ≡ match_ordering r (((k.dir, k.name.items), v) ∷ named e ∷ map named es) (((e.0.dir, e.0.name.items), v) ∷ map named es) (named e ∷ insert_entry name_cmp (map named es) (k.dir, k.name.items) v)) [
       | Less ↦ refl
       | Equal ↦ refl
       | Greater ↦ ap (λ z. named e ∷ z) (insert_named es k v)
@@ -122,10 +121,12 @@ lookup_filtered {K} {X} R x p q (e ∷ es) = at (lookup_filtered R x p q es) (p 
   where
     rest : Option X
     rest = lookup (is_at (R q)) es
+
     is_equal : (r : Ordering) → is_eq r ≡ true → r ≡ Equal
     is_equal Equal t = refl
     is_equal Less t = cc
     is_equal Greater t = cc
+
     at : lookup (is_at (R q)) (filter (λ (e : K × X). p e.0) es) ≡ cond (p q) rest None → (b d : Bool) → p e.0 ≡ b → is_at (R q) e.0 ≡ d
         → lookup (is_at (R q)) (cond b (e ∷ filter (λ (e : K × X). p e.0) es) (filter (λ (e : K × X). p e.0) es)) ≡ cond (p q) (cond d (Some e.1) rest) None
     at ih true true h t = ap (λ z. cond z (Some e.1) (lookup (is_at (R q)) (filter (λ (e : K × X). p e.0) es))) t ∙ sym (ap (λ z. cond z (Some e.1) None) (ap p (x q e.0 (is_equal (R q e.0) t)) ∙ h))

@@ -1,11 +1,10 @@
 -- How plans run, step by step.
-use Rattle.std.proofs.Common.{◌≡◌, ℕ, List, Option, Some, None, Bool, true, false, Result, Ok, Err, refl}
-use Rattle.std.specs.Prelude.{◌||◌, nat_lt, length}
+use Rattle.std.proofs.Common.{◌≡◌, ℕ, List, Option, Some, None, Bool, true, false, Ok, refl}
 use Rattle.sl_types.specs.declared.kind.Status.{Status}
 use Rattle.sl_types.specs.declared.handle.Handle.{Handle}
 use Rattle.sl_types.specs.Handles.{handle_of}
 use Rattle.sl_model.specs.Plan.{Plan, Done, Stop, Look, See, Find, Climb, Names, Text, Bytes, Verifier, Want, Key, Sight, run, and_then, ◌>>=◌}
-use Rattle.sl_model.specs.Checks.{refuse, handle, handle_or, checked, checked_both, is_bad, want, text_of, bytes_of, names_behind, find, verifier}
+use Rattle.sl_model.specs.Checks.{refuse, handle, handle_or, checked, checked_both, want, text_of, bytes_of, names_behind, find, verifier}
 use Rattle.sl_plain.specs.Steps.{refused, checked_name, checked_names, handle_from, read_handle}
 
 pub run_bind : {A B : Type 0} (s : Sight) (p : Plan A) (f : A → Plan B) → run s (p >>= f) ≡ and_then (run s p) (λ a. run s (f a))

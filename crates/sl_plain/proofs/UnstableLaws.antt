@@ -1,5 +1,5 @@
 -- The writes of other files.
-use Rattle.std.proofs.Common.{◌≡◌, ℕ, List, [], ◌∷◌, Bool, true, false, cond, refl, ap}
+use Rattle.std.proofs.Common.{◌≡◌, ℕ, List, [], ◌∷◌, true, false, cond, refl, ap}
 use Rattle.std.specs.Prelude.{filter, map, not, ◌==◌}
 use Rattle.sl_model.specs.Volume.{without_file}
 use Rattle.sl_plain.specs.declared.pending.Pending.{Pending}

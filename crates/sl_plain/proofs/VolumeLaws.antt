@@ -1,5 +1,5 @@
 -- Bytes one by one.
-use Rattle.std.proofs.Common.{◌≡◌, ℕ, zero, suc, ◌+◌, ◌-◌, ◌<◌, List, [], ◌∷◌, ◌++◌, refl, sym, ap, ◌∙◌, arith, append_assoc}
+use Rattle.std.proofs.Common.{◌≡◌, ℕ, suc, ◌+◌, ◌-◌, ◌<◌, List, [], ◌∷◌, ◌++◌, sym, ap, ◌∙◌, arith, append_assoc}
 use Rattle.sl_model.specs.Volume.{Volume, byte_at, bytes_from}
 
 pub one_more : (v : Volume) (f at i count : ℕ) (xs : List ℕ) → i < count → (xs ++ byte_at v f (at + i) ∷ []) ++ bytes_from v f (at + (i + 1)) (count - (i + 1)) ≡ xs ++ bytes_from v f (at + i) (count - i)

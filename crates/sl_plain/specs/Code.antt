@@ -21,6 +21,6 @@ unstable_code = code_by (ℕ × (ℕ × (List ℕ × (ℕ × ℕ)))) (coded× co
 abbrev pub volume_code : Coded Volume
 volume_code = code_by (ℕ × (FinMap nat_cmp Node × (FinMap name_cmp Entry × (FinMap nat_cmp (List ℕ) × (FinMap place_cmp ℕ × (List Unstable × (ℕ × FinMap nat_cmp (Unit {0}))))))))
     (coded× coded_ℕ (coded× (map.code coded_ℕ node.the_row.coded) (coded× (map.code (coded× coded_ℕ (coded_list coded_ℕ)) entry.the_row.coded) (coded× (map.code coded_ℕ (coded_list coded_ℕ))
-        (coded× (map.code (coded× coded_ℕ coded_ℕ) coded_ℕ) (coded× (coded_list unstable_code) (coded× coded_ℕ (map.code coded_ℕ used_code))))))))
+    (coded× (map.code (coded× coded_ℕ coded_ℕ) coded_ℕ) (coded× (coded_list unstable_code) (coded× coded_ℕ (map.code coded_ℕ used_code))))))))
     (λ v. (v.number, (v.nodes, (v.names, (v.texts, (v.written, (v.unstable, (v.verifier, v.used))))))))
     (λ p. record { number = p.0; nodes = p.1.0; names = p.1.1.0; texts = p.1.1.1.0; written = p.1.1.1.1.0; unstable = p.1.1.1.1.1.0; verifier = p.1.1.1.1.1.1.0; used = p.1.1.1.1.1.1.1 }) (λ v. refl)

@@ -1,5 +1,5 @@
 -- What the walks find, as outcomes.
-use Rattle.std.specs.Prelude.{Option, Some, None}
+use Rattle.std.specs.Prelude.{Some, None}
 use Rattle.sl_model.specs.Looking as looking
 use Rattle.sl_model.specs.Looking.{Outcome, attributes, handle_to, directory_handle, answering}
 use Rattle.sl_plain.specs.declared.walks.Looked.{Looked}

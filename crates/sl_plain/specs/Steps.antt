@@ -1,5 +1,5 @@
 -- How the checks end that look nothing up.
-use Rattle.std.specs.Prelude.{◌≡◌, ℕ, List, Option, Some, None, Bool, ◌||◌, nat_lt, length, Result, Ok, Err, if◌then◌else◌}
+use Rattle.std.specs.Prelude.{ℕ, List, Option, Some, None, Bool, ◌||◌, nat_lt, length, Result, Ok, Err, if◌then◌else◌}
 use Rattle.sl_types.specs.declared.kind.Status.{Status}
 use Rattle.sl_types.specs.declared.kind.Status.TheVariants.{NameTooLong, Acces, BadHandle}
 use Rattle.sl_types.specs.declared.handle.Handle.{Handle}

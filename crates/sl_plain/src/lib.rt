@@ -21,3 +21,6 @@ pub use unstable::UnstableWrites;
 pub use used::Used;
 pub use volume::Volume;
 pub use written::Written;
+
+#[cfg(test)]
+mod tests;

@@ -17,7 +17,6 @@ impl Model for Nodes {
     ghost use Rattle.std.specs.FinMap as map;
     ghost use Rattle.std.specs.Ordering.{nat_cmp};
     ghost use Rattle.sl_model.specs.declared.node.Node.{Node};
-
     ghost use Rattle.std.specs.Coded.{coded_ℕ};
     ghost use Rattle.sl_model.specs.contracts.node.Node as node;
 

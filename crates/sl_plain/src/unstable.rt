@@ -30,7 +30,10 @@ impl Pending {
         ensures { result ≡ byte_after_write file offset (write_of self.now) before }
     {
         let bytes = self.bytes.as_slice();
-        if self.fileid == file && self.offset <= offset && offset < self.offset + bytes.len() as u64 {
+        if self.fileid == file
+            && self.offset <= offset
+            && offset < self.offset + bytes.len() as u64
+        {
             bytes[(offset - self.offset) as usize]
         } else {
             before

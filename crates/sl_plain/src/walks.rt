@@ -17,7 +17,7 @@ use crate::names::Place;
 use crate::volume::Volume;
 use sl_defs::{Choice, Time};
 use sl_model::{Entry, Node};
-use sl_types::{Cred, CreateHow, Handle, Kind, Sattr, Status};
+use sl_types::{CreateHow, Cred, Handle, Kind, Sattr, Status};
 
 // Whether the caller may do what it asks for.
 fn is_granted(_cred: &Cred, _node: &Node) -> bool
@@ -126,7 +126,12 @@ fn lookup_in(volume: &Volume, h: Handle, d: Node, place: &Place) -> Result<Looke
     }
 }
 
-pub(crate) fn lookup(volume: &Volume, cred: &Cred, h: Handle, place: &Place) -> Result<Looked, Status>
+pub(crate) fn lookup(
+    volume: &Volume,
+    cred: &Cred,
+    h: Handle,
+    place: &Place,
+) -> Result<Looked, Status>
     requires { place.now.dir ≡ h.fileid }
     ensures { run (sight volume.now) (looking.lookup cred.now h place.now.name.items) ≡ ended found.looked result }
 {
@@ -150,7 +155,13 @@ pub(crate) fn readlink(volume: &Volume, cred: &Cred, h: Handle) -> Result<Node, 
     Ok(n)
 }
 
-pub(crate) fn read(volume: &Volume, cred: &Cred, h: Handle, offset: u64, count: u32) -> Result<Node, Status>
+pub(crate) fn read(
+    volume: &Volume,
+    cred: &Cred,
+    h: Handle,
+    offset: u64,
+    count: u32,
+) -> Result<Node, Status>
     ensures { run (sight volume.now) (looking.read cred.now h offset count) ≡ ended (λ n. looking.reading n offset count ((sight volume.now).bytes h.fileid offset (looking.readable n offset count))) result }
 {
     object(volume, cred, h)?;
@@ -189,7 +200,14 @@ fn guarded_by(volume: &Volume, f: u64, t: Time) -> Result<(), Status>
     refuse(!same_time(n.ctime, t), Status::NotSync)
 }
 
-pub(crate) fn setattr(volume: &Volume, cred: &Cred, h: Handle, s: Sattr, guard: Option<Time>, _now: Time) -> Result<Node, Status>
+pub(crate) fn setattr(
+    volume: &Volume,
+    cred: &Cred,
+    h: Handle,
+    s: Sattr,
+    guard: Option<Time>,
+    _now: Time,
+) -> Result<Node, Status>
     ensures { run (sight volume.now) (changing.setattr cred.now h s guard _now) ≡ ended (λ n. changing.setting n s _now) result }
 {
     refuse(has_bad_time(s), Status::Inval)?;
@@ -216,7 +234,15 @@ fn find(volume: &Volume, dir: u64, place: &Place) -> Option<Entry>
     volume.entry_at(place)
 }
 
-pub(crate) fn mkdir(volume: &Volume, cred: &Cred, to: Handle, place: &Place, s: Sattr, _now: Time, choice: Choice) -> Result<Node, Status>
+pub(crate) fn mkdir(
+    volume: &Volume,
+    cred: &Cred,
+    to: Handle,
+    place: &Place,
+    s: Sattr,
+    _now: Time,
+    choice: Choice,
+) -> Result<Node, Status>
     requires { place.now.dir ≡ to.fileid }
     ensures { run (sight volume.now) (changing.mkdir cred.now to place.now.name.items s _now choice) ≡ ended (λ d. changing.making_directory d place.now.name.items s cred.now _now choice.fileid) result }
 {
@@ -229,7 +255,13 @@ pub(crate) fn mkdir(volume: &Volume, cred: &Cred, to: Handle, place: &Place, s: 
     Ok(d)
 }
 
-pub(crate) fn remove(volume: &Volume, cred: &Cred, h: Handle, place: &Place, _now: Time) -> Result<(Node, Node), Status>
+pub(crate) fn remove(
+    volume: &Volume,
+    cred: &Cred,
+    h: Handle,
+    place: &Place,
+    _now: Time,
+) -> Result<(Node, Node), Status>
     requires { place.now.dir ≡ h.fileid }
     ensures { run (sight volume.now) (changing.remove cred.now h place.now.name.items _now) ≡ ended (λ p. changing.removal p.0 place.now.name.items p.1 _now) result }
 {
@@ -242,7 +274,13 @@ pub(crate) fn remove(volume: &Volume, cred: &Cred, h: Handle, place: &Place, _no
     Ok((d, n))
 }
 
-pub(crate) fn rmdir(volume: &Volume, cred: &Cred, h: Handle, place: &Place, _now: Time) -> Result<(Node, Node), Status>
+pub(crate) fn rmdir(
+    volume: &Volume,
+    cred: &Cred,
+    h: Handle,
+    place: &Place,
+    _now: Time,
+) -> Result<(Node, Node), Status>
     requires { place.now.dir ≡ h.fileid }
     ensures { run (sight volume.now) (changing.rmdir cred.now h place.now.name.items _now) ≡ ended (λ p. changing.directory_removal p.0 place.now.name.items p.1 _now) result }
 {
@@ -257,7 +295,14 @@ pub(crate) fn rmdir(volume: &Volume, cred: &Cred, h: Handle, place: &Place, _now
     Ok((d, n))
 }
 
-pub(crate) fn link(volume: &Volume, cred: &Cred, h: Handle, to: Handle, place: &Place, _now: Time) -> Result<(Node, Node), Status>
+pub(crate) fn link(
+    volume: &Volume,
+    cred: &Cred,
+    h: Handle,
+    to: Handle,
+    place: &Place,
+    _now: Time,
+) -> Result<(Node, Node), Status>
     requires { place.now.dir ≡ to.fileid }
     ensures { run (sight volume.now) (changing.link cred.now h to place.now.name.items _now) ≡ ended (λ p. changing.linking p.0 place.now.name.items p.1 _now) result }
 {

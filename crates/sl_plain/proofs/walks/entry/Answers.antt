@@ -1,5 +1,4 @@
-use Rattle.std.proofs.Common.{◌≡◌, ◌∙◌, sym, ap, rules}
-use Rattle.std.specs.FinMap as map
+use Rattle.std.proofs.Common.{◌∙◌, sym, ap, rules}
 use Rattle.sl_model.specs.Plan.{run}
 use Rattle.sl_model.specs.Volume.{sight}
 use Rattle.sl_model.specs.Checks as checks

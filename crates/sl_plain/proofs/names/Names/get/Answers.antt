@@ -1,8 +1,8 @@
-use Rattle.std.proofs.Common.{◌∙◌, sym, ap, rules}
+use Rattle.std.proofs.Common.{◌∙◌, sym, ap}
 use Rattle.std.specs.Prelude.{map as each}
 use Rattle.std.specs.FinMap as map
 use Rattle.sl_model.specs.Volume.{name_cmp}
-use Rattle.sl_plain.specs.Maps.{named, place_order}
+use Rattle.sl_plain.specs.Maps.{named}
 use Rattle.sl_plain.proofs.MapLaws.{get_at, lookup_named, names_total}
 use Rattle.sl_plain.proofs.names.Names.get.Goals as goal
 

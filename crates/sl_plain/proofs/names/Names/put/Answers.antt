@@ -1,8 +1,8 @@
-use Rattle.std.proofs.Common.{◌∙◌, sym, ap, rules}
+use Rattle.std.proofs.Common.{◌∙◌, ap}
 use Rattle.std.specs.Prelude.{map as each}
 use Rattle.std.specs.FinMap as map
 use Rattle.sl_model.specs.Volume.{name_cmp}
-use Rattle.sl_plain.specs.Maps.{named, place_order}
+use Rattle.sl_plain.specs.Maps.{named}
 use Rattle.sl_plain.proofs.MapLaws.{given, insert_named, names_total, exact_names}
 use Rattle.sl_plain.proofs.names.Names.put.Goals as goal
 

@@ -1,4 +1,4 @@
-use Rattle.std.proofs.Common.{ℕ, ◌≡◌, ◌∙◌, sym, ap, rules, Bool}
+use Rattle.std.proofs.Common.{◌∙◌, ap, rules}
 use Rattle.std.specs.Prelude.{◌==◌, not, map}
 use Rattle.std.proofs.lemmas.Fn.{filter_same}
 use Rattle.sl_model.specs.Volume.{without_file}

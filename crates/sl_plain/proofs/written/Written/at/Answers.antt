@@ -1,4 +1,4 @@
-use Rattle.std.proofs.Common.{ℕ, ◌∙◌, sym, ap, rules}
+use Rattle.std.proofs.Common.{◌∙◌, sym, ap}
 use Rattle.std.specs.FinMap as map
 use Rattle.sl_model.specs.Volume.{place_cmp}
 use Rattle.std.specs.Option.{unwrap_or}

@@ -1,5 +1,5 @@
-use Rattle.std.proofs.Common.{ℕ, ◌≡◌, ◌∙◌, sym, ap, rules, Bool}
-use Rattle.std.specs.Prelude.{◌==◌, nat_lt, not, ◌||◌, filter}
+use Rattle.std.proofs.Common.{ℕ, ◌∙◌, ap, rules, Bool}
+use Rattle.std.specs.Prelude.{◌==◌, nat_lt, not, ◌||◌}
 use Rattle.std.specs.FinMap as map
 use Rattle.std.proofs.lemmas.Map.Made.{filter_same_pairs}
 use Rattle.sl_model.specs.Volume.{place_cmp, cut_at}
