@@ -1,0 +1,10 @@
+use Rattle.std.proofs.Common.{◌∙◌, rules}
+use Rattle.sl_model.specs.Volume.{sight}
+use Rattle.sl_plain.proofs.LookingRuns.{object_run}
+use Rattle.sl_plain.proofs.walks.object.Goals as goal
+
+pub returns-in_err-n : goal.returns-in_err-n
+returns-in_err-n c = object_run (sight c.args.volume.now) c.args.cred.now c.args.h ∙ search rules
+
+pub returns : goal.returns
+returns c = object_run (sight c.args.volume.now) c.args.cred.now c.args.h ∙ search rules

@@ -1,0 +1,5 @@
+pub mod Maps
+pub mod Unstables
+pub mod Code
+pub mod Steps
+pub mod Found

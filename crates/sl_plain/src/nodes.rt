@@ -1,0 +1,66 @@
+ghost use Rattle.std.specs.Prelude.{◌≡◌, OnOk};
+ghost use Rattle.std.specs.FinMap as map;
+
+use sl_defs::NoMemory;
+use sl_model::Node;
+use std::alloc::Global;
+use std::collections::BTreeMap;
+use std::marker::Model;
+
+/// The nodes of a volume by their fileids, which contracts see as that map.
+#[derive(Drop)]
+pub struct Nodes {
+    entries: BTreeMap<u64, Node>,
+}
+
+impl Model for Nodes {
+    ghost use Rattle.std.specs.FinMap as map;
+    ghost use Rattle.std.specs.Ordering.{nat_cmp};
+    ghost use Rattle.sl_model.specs.declared.node.Node.{Node};
+    ghost use Rattle.std.specs.Coded.{coded_ℕ};
+    ghost use Rattle.sl_model.specs.contracts.node.Node as node;
+
+    ghost Value = { map.FinMap nat_cmp Node };
+
+    ghost coded = { map.code coded_ℕ node.the_row.coded };
+
+    ghost view = { λ a. map.from_entries a.entries.entries };
+}
+
+impl Nodes {
+    /// No node.
+    pub fn new(alloc: Global) -> Nodes
+        ensures { result ≡ map.empty }
+    {
+        Nodes {
+            entries: BTreeMap::new(alloc),
+        }
+    }
+
+    /// The node of a fileid.
+    pub fn get(&self, fileid: u64) -> Option<Node>
+        ensures { result ≡ map.get self.now fileid }
+    {
+        match self.entries.get(&fileid) {
+            Some(node) => Some(*node),
+            None => None,
+        }
+    }
+
+    /// Puts the node of a fileid, for the one that is there.
+    pub fn put(&mut self, fileid: u64, node: Node) -> Result<(), NoMemory>
+        ensures { OnOk result (self.new ≡ map.insert self.old fileid node) }
+    {
+        let Ok(_) = self.entries.insert(fileid, node) else {
+            return Err(NoMemory);
+        };
+        Ok(())
+    }
+
+    /// Takes the node of a fileid away, if one is there.
+    pub fn take(&mut self, fileid: u64)
+        ensures { self.new ≡ map.remove self.old fileid }
+    {
+        let _ = self.entries.remove(&fileid);
+    }
+}

@@ -1,0 +1,115 @@
+ghost use Rattle.std.specs.Prelude.{◌≡◌, ◌++◌, ◌∷◌, [], map, ◌+◌, ◌^◌, ◌<◌, length, OnOk};
+ghost use Rattle.sl_model.specs.Volume.{without_file, after_write, after_writes, byte_after, byte_after_write};
+ghost use Rattle.sl_plain.specs.Unstables.{write_of};
+
+use crate::pending::Pending;
+use sl_defs::NoMemory;
+use sl_model::Node;
+use std::alloc::Global;
+use std::marker::Model;
+
+impl Pending {
+    // The node after the write, if it is of this file.
+    fn after(&self, node: Node) -> Node
+        ensures { result ≡ after_write (write_of self.now) node }
+    {
+        if self.fileid != node.fileid {
+            return node;
+        }
+        let end = self.offset + self.bytes.as_slice().len() as u64;
+        Node {
+            size: node.size.max(end),
+            mtime: self.moment,
+            ctime: self.moment,
+            ..node
+        }
+    }
+
+    // A file's byte after the write, where it was this one.
+    fn byte_after(&self, file: u64, offset: u64, before: u8) -> u8
+        ensures { result ≡ byte_after_write file offset (write_of self.now) before }
+    {
+        let bytes = self.bytes.as_slice();
+        if self.fileid == file
+            && self.offset <= offset
+            && offset < self.offset + bytes.len() as u64
+        {
+            bytes[(offset - self.offset) as usize]
+        } else {
+            before
+        }
+    }
+}
+
+/// The unstable writes of a volume, from the oldest on, which contracts see as that list.
+#[derive(Drop)]
+pub struct UnstableWrites {
+    items: Vec<Pending>,
+}
+
+impl Model for UnstableWrites {
+    ghost use Rattle.std.specs.Prelude.{List, map};
+    ghost use Rattle.sl_model.specs.Volume.{Unstable};
+    ghost use Rattle.sl_plain.specs.Unstables.{write_of};
+
+    ghost Value = { List Unstable };
+
+    ghost view = { λ a. map write_of a.items.items };
+}
+
+impl UnstableWrites {
+    /// No write.
+    pub fn new(alloc: Global) -> UnstableWrites
+        ensures { result ≡ [] }
+    {
+        UnstableWrites {
+            items: Vec::new(alloc),
+        }
+    }
+
+    /// The writes, in order.
+    pub fn as_slice(&self) -> &[Pending]
+        ensures { map write_of result.now ≡ self.now }
+    {
+        self.items.as_slice()
+    }
+
+    /// One write more.
+    pub fn push(&mut self, write: Pending) -> Result<(), NoMemory>
+        ensures { OnOk result (self.new ≡ self.old ++ write_of write ∷ []) }
+    {
+        let Ok(_) = self.items.push(write) else {
+            return Err(NoMemory);
+        };
+        Ok(())
+    }
+
+    /// Leaves the writes of other files.
+    pub fn forget(&mut self, file: u64)
+        ensures { self.new ≡ without_file file self.old }
+    {
+        self.items.retain(|write| write.fileid != file);
+    }
+
+    /// A node after the writes.
+    pub fn after(&self, node: Node) -> Node
+        ensures { result ≡ after_writes self.now node }
+    {
+        let mut seen = node;
+        for write in &self.items {
+            seen = write.after(seen);
+        }
+        seen
+    }
+
+    /// A file's byte after the writes, where it was this one.
+    pub fn byte_after(&self, file: u64, offset: u64, before: u8) -> u8
+        ensures { result ≡ byte_after file offset self.now before }
+    {
+        let mut byte = before;
+        for write in &self.items {
+            byte = write.byte_after(file, offset, byte);
+        }
+        byte
+    }
+}

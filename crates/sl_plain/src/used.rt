@@ -1,0 +1,47 @@
+ghost use Rattle.std.specs.Prelude.{◌≡◌, OnOk};
+ghost use Rattle.std.specs.FinMap as map;
+
+use sl_defs::NoMemory;
+use std::alloc::Global;
+use std::collections::BTreeMap;
+use std::marker::Model;
+
+/// The fileids that were ever used, which contracts see as a map to nothing.
+#[derive(Drop)]
+pub struct Used {
+    entries: BTreeMap<u64, ()>,
+}
+
+impl Model for Used {
+    ghost use Rattle.std.specs.Prelude.{ℕ, refl};
+    ghost use Rattle.std.specs.Coded.{coded_ℕ, code_by};
+    ghost use Rattle.std.specs.FinMap as map;
+    ghost use Rattle.std.specs.Ordering.{nat_cmp};
+
+    ghost Value = { map.FinMap nat_cmp (Unit {0}) };
+
+    ghost coded = { map.code coded_ℕ (code_by ℕ coded_ℕ (λ u. 0) (λ n. tt) (λ u. refl)) };
+
+    ghost view = { λ a. map.from_entries a.entries.entries };
+}
+
+impl Used {
+    /// No fileid.
+    pub fn new(alloc: Global) -> Used
+        ensures { result ≡ map.empty }
+    {
+        Used {
+            entries: BTreeMap::new(alloc),
+        }
+    }
+
+    /// One more fileid.
+    pub fn put(&mut self, fileid: u64) -> Result<(), NoMemory>
+        ensures { OnOk result (self.new ≡ map.insert self.old fileid tt) }
+    {
+        let Ok(_) = self.entries.insert(fileid, ()) else {
+            return Err(NoMemory);
+        };
+        Ok(())
+    }
+}
