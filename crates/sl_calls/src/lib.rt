@@ -9,3 +9,8 @@ mod writing;
 pub use laws::{canonical_texts_spell, no_spelling_is_a_front, spellings_are_read};
 pub use reading::read_args;
 pub use writing::write_args;
+
+#[cfg(test)]
+mod rows;
+#[cfg(test)]
+mod tests;
