@@ -1,7 +1,7 @@
 -- What a stop leaves at each moment of an append.
-use Rattle.std.proofs.Common.{◌≡◌, ◌⊎◌, inl, inr, ℕ, ◌+◌, ◌^◌, ◌<◌, List, [], ◌∷◌, ◌++◌, length, sym, ◌∙◌, subst}
-use Rattle.sl_disk.specs.Shelf.{Situation, Torn, Only}
-use Rattle.sl_journal.specs.Format.{IsJournal, Stands}
+use Rattle.std.proofs.Common.{◌≡◌, inl, inr, ℕ, ◌+◌, ◌^◌, ◌<◌, List, [], ◌∷◌, ◌++◌, length, sym, ◌∙◌, subst}
+use Rattle.sl_disk.specs.Shelf.{Situation, Torn}
+use Rattle.sl_journal.specs.Format.{IsJournal}
 use Rattle.sl_journal.specs.Moments.{LeavesOnly, IsTorn, IsWritten}
 use Rattle.sl_journal.specs.Settled.{SettledAt, StandsWithOrWithout}
 use Rattle.sl_journal.proofs.Runs.{started, weaker, chain}

@@ -1,5 +1,5 @@
 -- How a run of device calls goes on.
-use Rattle.std.proofs.Common.{◌≡◌, ◌≢◌, ◌⊎◌, ◌↔◌, inl, inr, ⊎_elim, ℕ, ◌<◌, ◌≤◌, List, length, refl, sym, ◌∙◌, subst, arith}
+use Rattle.std.proofs.Common.{inl, inr, ⊎_elim, ℕ, ◌<◌, List, refl, ◌∙◌, subst, arith}
 use Rattle.sl_disk.specs.Shelf.{Told, Situation, LeavesOthers, SameImages, Elapses, Torn, Follows, NoMore, SameCounts, KeepsScript, Rose}
 use Rattle.sl_disk.specs.Shelf as shelf
 use Rattle.sl_disk.specs.declared.shelf.ShelfFault.{ShelfFault}

@@ -1,11 +1,11 @@
 -- What a stop leaves in each stage of a making and of an append.
-use Rattle.std.proofs.Common.{◌≡◌, ◌≢◌, ◌⊎◌, inl, inr, ℕ, zero, suc, ◌+◌, ◌-◌, ◌^◌, ◌<◌, ◌≤◌, min, max, List, [], ◌∷◌, ◌++◌, length, replicate, get_or, take, drop, refl, sym, ◌∙◌, ap, subst, arith, append_assoc, length-append, length-drop, take-append-drop}
-use Rattle.std.proofs.lemmas.List.{take_at, drop_at, drop_more, drop-drop, drop_all, append-nil, length-take, length-replicate, nil_from_length, drop-append-le, take-append-le}
+use Rattle.std.proofs.Common.{◌≡◌, ◌≢◌, inl, inr, ℕ, ◌+◌, ◌-◌, ◌^◌, ◌<◌, ◌≤◌, min, List, [], ◌∷◌, ◌++◌, length, replicate, get_or, take, drop, refl, sym, ◌∙◌, ap, subst, arith, append_assoc, length-append, length-drop, take-append-drop}
+use Rattle.std.proofs.lemmas.List.{take_at, drop_at, drop_more, drop-drop, drop_all, append-nil, length-replicate, nil_from_length}
 use Rattle.std.proofs.lemmas.Bool.{cases_eq, cases_lt}
 use Rattle.sl_defs.specs.Items.{u32_text}
 use Rattle.sl_defs.proofs.ItemLaws.{length-u32_text}
-use Rattle.sl_disk.specs.Shelf.{Torn, padded, put, written}
-use Rattle.sl_journal.specs.Format.{record_text, records_text, AreShort, FromGate, IsFresh, IsJournal, Stands}
+use Rattle.sl_disk.specs.Shelf.{Torn, written}
+use Rattle.sl_journal.specs.Format.{record_text, records_text, AreShort, IsJournal}
 use Rattle.sl_journal.specs.Settled.{StandsWithOrWithout}
 use Rattle.sl_journal.proofs.Texts.{records_push, short_push}
 

@@ -1,9 +1,9 @@
 -- Records are read in one way alone.
-use Rattle.std.proofs.Common.{◌≡◌, ◌≢◌, ℕ, zero, suc, ◌+◌, ◌-◌, ◌^◌, ◌<◌, ◌≤◌, List, [], ◌∷◌, ◌++◌, length, get_or, take, drop, refl, sym, ◌∙◌, ap, subst, arith, append_assoc, length-append, take-append-drop}
+use Rattle.std.proofs.Common.{◌≡◌, ◌≢◌, ℕ, ◌^◌, ◌<◌, ◌≤◌, List, [], ◌∷◌, ◌++◌, length, get_or, take, drop, refl, sym, ◌∙◌, ap, subst, arith, append_assoc, length-append, take-append-drop}
 use Rattle.std.proofs.lemmas.List.{take_at, drop_at, append-nil, length-take}
 use Rattle.sl_defs.specs.Items.{u32_text, BeginsWith}
 use Rattle.sl_defs.proofs.ItemLaws.{unique, length-u32_text}
-use Rattle.sl_journal.specs.Format.{record_text, records_text, AreShort, FromGate, IsRecord, IsClosed, IsPayload, IsFresh, IsJournal, Stands}
+use Rattle.sl_journal.specs.Format.{record_text, records_text, AreShort, FromGate, IsRecord, IsClosed, IsPayload, IsJournal}
 
 -- two lists whose fronts are as long
 pub same_parts : (p q x y : List ℕ) → length p ≡ length q → p ++ x ≡ q ++ y → (p ≡ q) × (x ≡ y)

@@ -1,6 +1,6 @@
 -- What a run of calls of one disk leaves, at each of its moments.
-use Rattle.std.specs.Prelude.{◌≡◌, ◌≢◌, ◌⊎◌, ℕ, ◌<◌, ◌≤◌, List, length, IsTrue, Result, OnOk, MatchResult}
-use Rattle.sl_disk.specs.Shelf.{Told, Situation, LeavesOthers, Torn, Only, Rose, SameCounts, KeepsScript, written}
+use Rattle.std.specs.Prelude.{◌≡◌, ◌≢◌, ◌⊎◌, ℕ, ◌<◌, ◌≤◌, List}
+use Rattle.sl_disk.specs.Shelf.{Situation, LeavesOthers, Torn, Only, written}
 
 -- At each moment since the run began a stop leaves on the disk what has P, and on the others what it left before.
 pub record LeavesOnly (disk : ℕ) (old new : Situation) (P : List ℕ → Type 0) : Type 0 where

@@ -1,11 +1,11 @@
 -- A journal at rest, and what its calls answer.
-use Rattle.std.specs.Prelude.{◌≡◌, ◌⊎◌, ℕ, ◌+◌, ◌≤◌, ◌<◌, List, [], ◌∷◌, ◌++◌, length, IsTrue, Option, Some, None, Result, MatchResult, IsErrOf}
-use Rattle.sl_disk.specs.Shelf.{Told, Situation, Only, Rose, SameCounts, KeepsScript}
+use Rattle.std.specs.Prelude.{◌≡◌, ◌⊎◌, ℕ, ◌+◌, List, [], ◌∷◌, ◌++◌, length, IsTrue, Option, None, Result, MatchResult}
+use Rattle.sl_disk.specs.Shelf.{Told, Situation, Only, Rose, SameCounts}
 use Rattle.sl_disk.specs.declared.shelf.ShelfFault.{ShelfFault}
 use Rattle.sl_disk.specs.declared.shelf.ShelfFault.TheVariants as shelf
 use Rattle.sl_journal.specs.Format.{IsJournal, Stands, records_text}
 use Rattle.sl_journal.specs.declared.fault.JournalFault.{JournalFault}
-use Rattle.sl_journal.specs.declared.fault.JournalFault.TheVariants.{Failed, Stopped, NotAJournal, NoMemory, Spent}
+use Rattle.sl_journal.specs.declared.fault.JournalFault.TheVariants.{Failed, Stopped, NotAJournal, NoMemory}
 
 -- what contracts see of a journal: its disk, the place of the next gate, and the fault that it met
 pub record JournalState : Type 0 where

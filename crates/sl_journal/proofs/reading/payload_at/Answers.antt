@@ -1,4 +1,4 @@
-use Rattle.std.proofs.Common.{ℕ, List, ◌≡◌, ◌^◌, ◌<◌, ◌++◌, length, drop, sym, ◌∙◌, ap, arith, length-append}
+use Rattle.std.proofs.Common.{ℕ, List, ◌≡◌, ◌^◌, ◌<◌, ◌++◌, length, sym, ◌∙◌, ap, arith, length-append}
 use Rattle.sl_defs.specs.Items.{u32_text}
 use Rattle.sl_defs.proofs.ItemLaws.{length-u32_text}
 use Rattle.sl_journal.proofs.Texts.{payload_found, no_number, too_short, behind_number}

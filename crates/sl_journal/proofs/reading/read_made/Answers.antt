@@ -1,7 +1,6 @@
-use Rattle.std.proofs.Common.{ℕ, List, ◌≡◌, length, sym, ◌∙◌, ap, subst, arith, Err, rules}
-use Rattle.std.proofs.lemmas.Grind.{common_steps}
+use Rattle.std.proofs.Common.{◌≡◌, ap, Err}
 use Rattle.sl_journal.specs.declared.fault.JournalFault.TheVariants.{NotAJournal}
-use Rattle.sl_journal.proofs.Texts.{journal_front, journal_body}
+use Rattle.sl_journal.proofs.Texts.{journal_body}
 use Rattle.sl_journal.proofs.reading.read_made.Goals as goal
 
 pub returns-in-Err-clause-none : goal.returns-in-Err-clause-none

@@ -1,6 +1,6 @@
-use Rattle.std.proofs.Common.{ℕ, List, ◌≡◌, ◌<◌, length, get_or, drop, sym, ◌∙◌, subst, arith}
+use Rattle.std.proofs.Common.{ℕ, List, ◌≡◌, ◌<◌, length, get_or, drop, subst, arith}
 use Rattle.std.proofs.lemmas.Grind.{common_steps}
-use Rattle.sl_journal.specs.Format.{IsPayload, IsRecord}
+use Rattle.sl_journal.specs.Format.{IsPayload}
 use Rattle.sl_journal.proofs.Texts.{record_here, nothing_here}
 use Rattle.sl_journal.proofs.reading.read_one.Goals as goal
 

@@ -1,5 +1,5 @@
-use Rattle.std.proofs.Common.{ℕ, List, [], ◌∷◌, ◌++◌, ◌≡◌, ◌<◌, length, sym, ◌∙◌, ap, subst, arith, Err}
-use Rattle.sl_journal.specs.Format.{IsRecord, AreShort, records_text}
+use Rattle.std.proofs.Common.{ℕ, List, [], ◌∷◌, ◌++◌, ◌≡◌, sym, ap, subst, Err}
+use Rattle.sl_journal.specs.Format.{AreShort, records_text}
 use Rattle.sl_journal.specs.declared.fault.JournalFault.TheVariants.{NotAJournal}
 use Rattle.sl_journal.proofs.Texts.{Unread, unread_more, spelled_more, short_push, nothing_read, record_longer}
 use Rattle.sl_journal.proofs.reading.read_records.Goals as goal
