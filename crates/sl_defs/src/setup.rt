@@ -1,4 +1,4 @@
-/// A moment: seconds, and nanoseconds below 10^9, since the epoch (RFC 1813, section 2.6, `nfstime3`).
+/// A moment: seconds, and nanoseconds below 10^9, since the epoch (RFC 1813, section 2.5, `nfstime3`).
 #[derive(Clone, Copy, Debug, PartialEq, Eq)]
 pub struct Time {
     pub sec: u32,

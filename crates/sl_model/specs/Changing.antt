@@ -44,7 +44,7 @@ abbrev pub is_too_big : Option ℕ → Bool
 is_too_big None = false
 is_too_big (Some size) = nat_lt max_size size
 
--- a mode has twelve bits (RFC 1813, section 2.6, `fattr3`, mode); this server leaves away all others
+-- a mode has twelve bits (RFC 1813, section 2.5, `fattr3`, mode); this server leaves away all others
 abbrev pub mode_or : Option ℕ → ℕ → ℕ
 mode_or None mode = mode
 mode_or (Some m) mode = m % 4096

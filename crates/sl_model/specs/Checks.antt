@@ -59,7 +59,7 @@ checked_both a b = do
   _ ← refuse (nat_lt 255 (length a) || nat_lt 255 (length b)) NameTooLong
   refuse (is_bad a || is_bad b) Acces
 
--- a client's time with nanoseconds past the second (RFC 1813, section 2.6, `nfstime3`)
+-- a client's time with nanoseconds past the second (RFC 1813, section 2.5, `nfstime3`)
 abbrev pub is_bad_time : SetTime → Bool
 is_bad_time (set.Client t) = nat_lt 999999999 t.nsec
 is_bad_time _ = false

@@ -30,7 +30,7 @@ unchanged r = Done (answering r)
 
 -- ---- words
 
--- the attributes of an object (RFC 1813, section 2.6, `fattr3`); that `used` is the size is this server's choice
+-- the attributes of an object (RFC 1813, section 2.5, `fattr3`); that `used` is the size is this server's choice
 abbrev pub attributes : Node → Fattr
 attributes n = record {
   kind = n.kind;

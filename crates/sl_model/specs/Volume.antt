@@ -30,7 +30,7 @@ pub record Unstable : Type 0 where
   pub bytes : List ℕ
   pub moment : Time
 
--- A volume (RFC 1813, section 1.5: the file system behind the handles; section 2.6 for the attributes of a node).
+-- A volume: the file system behind the handles (RFC 1813, section 2.5, for the attributes of a node).
 pub record Volume : Type 0 where
   pub number : ℕ
   -- the node of each live object, by its fileid
@@ -125,7 +125,7 @@ put_seen nodes f (Some n) = map.insert nodes f n
 abbrev pub flush : ℕ → Volume → Volume
 flush f v = record v { nodes = put_seen v.nodes f (seen v f); written = put_writes f v.unstable v.written; unstable = without_file f v.unstable }
 
--- Restart: the unstable writes are lost, all together, and there is a new verifier (RFC 1813, section 4.8).
+-- Restart: the unstable writes are lost, all together, and there is a new verifier (RFC 1813, section 3.3.7, `writeverf3`).
 abbrev pub restart : ℕ → Volume → Volume
 restart verifier v = record v { unstable = []; verifier = verifier }
 

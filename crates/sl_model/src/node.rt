@@ -1,7 +1,7 @@
 use sl_defs::Time;
 use sl_types::{Kind, Name};
 
-/// An object: its attributes (RFC 1813, section 2.6, `fattr3`), and what the server keeps beside them.
+/// An object: its attributes (RFC 1813, section 2.5, `fattr3`), and what the server keeps beside them.
 #[derive(Clone, Copy, Debug, PartialEq, Eq)]
 pub struct Node {
     pub kind: Kind,

@@ -29,7 +29,7 @@ use Rattle.sl_types.specs.declared.reply.Reply.TheVariants.{Null, Getattr, Setat
 use Rattle.sl_types.specs.Numbers.{status_number, is_ok_status}
 use Rattle.sl_items.specs.Spelling.{IsFh, IsBytes, IsTime, IsFattr, IsStable, stable_number, time_text, fattr_text, FitsFh, FitsBytes}
 
--- ---- parts of results (section 2.6)
+-- ---- parts of results (section 2.5)
 
 -- nfsstat3
 abbrev pub IsStatus : Status → List ℕ → Type 0

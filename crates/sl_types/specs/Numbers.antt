@@ -1,4 +1,4 @@
--- The numbers of kinds and statuses in packets (RFC 1813, section 2.6).
+-- The numbers of kinds and statuses in packets (RFC 1813, sections 2.5 and 2.6).
 use Rattle.std.specs.Prelude.{ℕ, List, [], ◌∷◌, Option, Bool, true, false, ◌==◌, find}
 use Rattle.sl_types.specs.declared.kind.Kind.{Kind}
 use Rattle.sl_types.specs.declared.kind.Kind.TheVariants as kind

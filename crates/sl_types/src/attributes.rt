@@ -1,7 +1,7 @@
 use crate::kind::Kind;
 use sl_defs::Time;
 
-/// The attributes of an object (RFC 1813, section 2.6, `fattr3`).
+/// The attributes of an object (RFC 1813, section 2.5, `fattr3`).
 #[derive(Clone, Copy, Debug, PartialEq, Eq)]
 pub struct Fattr {
     pub kind: Kind,
@@ -35,7 +35,7 @@ pub enum SetTime {
     Client(Time),
 }
 
-/// The attributes that a call sets (RFC 1813, section 2.6, `sattr3`).
+/// The attributes that a call sets (RFC 1813, section 2.5, `sattr3`).
 #[derive(Clone, Copy, Debug, PartialEq, Eq)]
 pub struct Sattr {
     pub mode: Option<u32>,

@@ -1,6 +1,6 @@
 ghost use Rattle.std.specs.Prelude.{◌≡◌};
 
-/// The kind of an object (RFC 1813, section 2.6, `ftype3`); in packets it is a number from 1 to 7, in this order.
+/// The kind of an object (RFC 1813, section 2.5, `ftype3`); in packets it is a number from 1 to 7, in this order.
 #[derive(Clone, Copy, Debug, PartialEq, Eq)]
 pub enum Kind {
     Reg,

@@ -3,7 +3,7 @@ ghost use Rattle.std.specs.Prelude.{◌≡◌, IfOk};
 use sl_defs::{Bytes, NoMemory};
 use std::marker::Model;
 
-/// A file handle as a packet has it: at most 64 bytes that only the server reads (RFC 1813, section 2.6, `nfs_fh3`).
+/// A file handle as a packet has it: at most 64 bytes that only the server reads (RFC 1813, section 2.5, `nfs_fh3`).
 #[derive(Drop, Debug)]
 pub struct Fh {
     bytes: Bytes,
@@ -51,7 +51,7 @@ pub fn copy_handle(handle: &Option<Fh>) -> Result<Option<Fh>, NoMemory>
     }
 }
 
-/// A name in a directory (RFC 1813, section 2.6, `filename3`).
+/// A name in a directory (RFC 1813, section 2.5, `filename3`).
 #[derive(Drop, Debug)]
 pub struct Name {
     bytes: Bytes,

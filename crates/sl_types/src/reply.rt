@@ -7,7 +7,7 @@ use crate::kind::Status;
 use crate::names::{Fh, copy_handle};
 use sl_defs::{Bytes, NoMemory, Time};
 
-/// Weak cache consistency data (RFC 1813, section 2.6, `wcc_data`). This server never gives attributes from before
+/// Weak cache consistency data (RFC 1813, section 2.5, `wcc_data`). This server never gives attributes from before
 /// the call, and looks at none.
 #[derive(Clone, Copy, Debug, PartialEq, Eq)]
 pub struct Wcc {
