@@ -22,27 +22,27 @@ call_turn client datagram note = record { happening = Happens (event.Call client
 abbrev opening_turn : Setup → Turn
 opening_turn setup = record { happening = Opens setup; moment = record { sec = 0; nsec = 0 }; notes = [] }
 
-module _ (n : ℕ) (text : List ℕ) (client : ℕ) (datagram : List ℕ) (spelled : text ≡ line_text (line.Happens (event.Call client datagram))) where
-  is_call_turn : (note : Printed) → IsArrival n datagram (note ∷ []) → IsTurnOf n text (call_turn client datagram note)
-  is_call_turn note answered = record { spelled = sym spelled; no_remark = rw spelled refl; answered = answered; event = refl }
+module _ (setup : Setup) (n : ℕ) (text : List ℕ) (client : ℕ) (datagram : List ℕ) (spelled : text ≡ line_text (line.Happens (event.Call client datagram)))
+    (place : IsLine (Some setup) (line.Happens (event.Call client datagram))) where
+  is_call_turn : (note : Printed) → IsArrival n datagram (note ∷ []) → IsTurnOf setup n text (call_turn client datagram note)
+  is_call_turn note answered = record { spelled = sym spelled; in_place = place; no_remark = rw spelled refl; answered = answered; event = refl }
 
   call_turn_text : (note : Printed) → noted text note ≡ turn_text (call_turn client datagram note)
   unfolding turn_text
   call_turn_text note = ap (λ (t : List ℕ). noted t note) spelled
 
-  pub call_passes : (old new : Option (List ℕ)) (note : Printed) → IsArrival n datagram (note ∷ []) → Appends old new (noted text note) → Passes passed.Event n text old new
+  pub call_passes : (old new : Option (List ℕ)) (note : Printed) → IsArrival n datagram (note ∷ []) → Appends old new (noted text note) → Passes passed.Event setup n text old new
   call_passes old new note answered wrote = (call_turn client datagram note, is_call_turn note answered, subst (Appends old new) (call_turn_text note) wrote)
 
-  pub call_stops : (why : Stop) (setup : Setup) (old new : Option (List ℕ)) → IsLine (Some setup) (line.Happens (event.Call client datagram))
-      → CallStops why n text datagram old new → Stops why setup n text old new
-  call_stops stop.WriteFault setup old new place h = (call_turn client datagram h.0, is_call_turn h.0 h.1, subst (TookFront old new) (call_turn_text h.0) h.2)
-  call_stops stop.Bad setup old new place h = absurd h
-  call_stops stop.Unbuilt setup old new place h = (record { spelled_line = line.Happens (event.Call client datagram); in_place = place; spelled = spelled; form = h.0 }, h.1)
-  call_stops stop.NoMemory setup old new place h = h
+  pub call_stops : (why : Stop) (old new : Option (List ℕ)) → CallStops why n text datagram old new → Stops why setup n text old new
+  call_stops stop.WriteFault old new h = (call_turn client datagram h.0, is_call_turn h.0 h.1, subst (TookFront old new) (call_turn_text h.0) h.2)
+  call_stops stop.Bad old new h = absurd h
+  call_stops stop.Unbuilt old new h = (record { spelled_line = line.Happens (event.Call client datagram); in_place = place; spelled = spelled; form = h.0 }, h.1)
+  call_stops stop.NoMemory old new h = h
 
-module _ (text : List ℕ) (setup : Setup) (spelled : text ≡ line_text (line.Volume setup)) where
+module _ (text : List ℕ) (setup : Setup) (spelled : text ≡ line_text (line.Volume setup)) (place : IsLine None (line.Volume setup)) where
   is_opening : IsOpening setup text (opening_turn setup)
-  is_opening = record { spelled = sym spelled; no_remark = rw spelled refl; silent = refl; volume = refl }
+  is_opening = record { spelled = sym spelled; in_place = place; silent = refl; volume = refl }
 
   opening_text : ended text ≡ turn_text (opening_turn setup)
   unfolding turn_text notes_text

@@ -7,7 +7,7 @@ use Rattle.sl_defs.specs.Histories.{Turn, History, Happening, Opens, Reaches, Ha
 use Rattle.sl_defs.specs.declared.note.Printed.{Printed}
 use Rattle.sl_defs.specs.declared.setup.Setup.{Setup}
 use Rattle.slice.specs.Outside.{TookFront, Rose}
-use Rattle.slice.specs.Schedule.{lines, lines_left, without_remarks, is_remark, IsBad, IsUnbuilt, NeedsAServer}
+use Rattle.slice.specs.Schedule.{lines, lines_left, kept_lines, is_remark, IsBad, IsUnbuilt, NeedsAServer}
 use Rattle.slice.specs.declared.status.Stop.{Stop}
 use Rattle.slice.specs.declared.status.Stop.TheVariants as stop
 use Rattle.slice.specs.declared.status.Passed.{Passed}
@@ -34,11 +34,16 @@ abbrev pub volume_of : History → Option Setup
 volume_of [] = None
 volume_of (t ∷ past) = or_else (volume_of past) (opened_on t.happening)
 
+-- each line may stand in its place: the first is the volume, and the others are of that volume's schedules
+abbrev pub AreInPlace : History → Type 0
+AreInPlace [] = Unit {0}
+AreInPlace (t ∷ past) = AreInPlace past × IsLine (volume_of past) (line_of t.happening)
+
 -- The first lines of the source are those of the history, and remarks, which are passed over; these are left.
 pub record Leaves (source : List ℕ) (h : History) (left : List (List ℕ)) : Type 0 where
   pub performed : List (List ℕ)
   pub lines_are : lines source ≡ performed ++ left
-  pub printed : without_remarks performed ≡ lines_of h
+  pub printed : kept_lines performed ≡ lines_of h
 
 -- Line k is the first that isn't performed.
 pub record StopsAt (source : List ℕ) (h : History) (line : List ℕ) (k : ℕ) : Type 0 where
@@ -62,9 +67,11 @@ abbrev pub Took : Status → Option (List ℕ) → Option (List ℕ) → List �
 Took WriteFault old new text = TookFront old new text
 Took _ old new text = Appends old new text
 
--- Lines of the source were performed: there is a legal history of them, and the sink took its printed text.
+-- Lines of the source were performed, each in its place: there is a legal history of them, and the sink took its
+-- printed text.
 pub record Performs (outcome : Status) (source : List ℕ) (old new : Option (List ℕ)) : Type 0 where
   pub history : History
+  pub in_place : AreInPlace history
   pub legal : Legal history
   pub ends : Ends outcome source history
   pub took : Took outcome old new (history_text history)
@@ -166,23 +173,24 @@ CallDone outcome n text datagram old new =
     MatchResult outcome (λ _. (note : Printed) × IsArrival n datagram (note ∷ []) × Appends old new (noted text note)) (λ why. CallStops why n text datagram old new)
 
 -- the turn of event n that this line makes
-pub record IsTurnOf (n : ℕ) (text : List ℕ) (t : Turn) : Type 0 where
+pub record IsTurnOf (setup : Setup) (n : ℕ) (text : List ℕ) (t : Turn) : Type 0 where
   pub spelled : line_text (line_of t.happening) ≡ text
+  pub in_place : IsLine (Some setup) (line_of t.happening)
   pub no_remark : is_remark text ≡ false
   pub answered : IsTurn n t.happening t.notes
   pub event : event_count t.happening ≡ 1
 
 -- why a line behind the volume line wasn't performed
 abbrev pub Stops : Stop → Setup → ℕ → List ℕ → Option (List ℕ) → Option (List ℕ) → Type 0
-Stops stop.WriteFault setup n text old new = (t : Turn) × IsTurnOf n text t × TookFront old new (turn_text t)
+Stops stop.WriteFault setup n text old new = (t : Turn) × IsTurnOf setup n text t × TookFront old new (turn_text t)
 Stops stop.Bad setup n text old new = IsBad (Some setup) text × Keeps old new
 Stops stop.Unbuilt setup n text old new = IsUnbuilt (Some setup) text × Keeps old new
 Stops stop.NoMemory setup n text old new = Keeps old new
 
 -- what became of such a line that was performed or passed over
-abbrev pub Passes : Passed → ℕ → List ℕ → Option (List ℕ) → Option (List ℕ) → Type 0
-Passes passed.Event n text old new = (t : Turn) × IsTurnOf n text t × Appends old new (turn_text t)
-Passes passed.Remark n text old new = (is_remark text ≡ true) × Keeps old new
+abbrev pub Passes : Passed → Setup → ℕ → List ℕ → Option (List ℕ) → Option (List ℕ) → Type 0
+Passes passed.Event setup n text old new = (t : Turn) × IsTurnOf setup n text t × Appends old new (turn_text t)
+Passes passed.Remark setup n text old new = (is_remark text ≡ true) × Keeps old new
 
 -- how many events that was
 abbrev pub events_of : Passed → ℕ
@@ -190,12 +198,12 @@ events_of passed.Event = 1
 events_of passed.Remark = 0
 
 abbrev pub LineDone : Result Passed Stop → Setup → ℕ → List ℕ → Option (List ℕ) → Option (List ℕ) → Type 0
-LineDone outcome setup n text old new = MatchResult outcome (λ p. Passes p n text old new) (λ why. Stops why setup n text old new)
+LineDone outcome setup n text old new = MatchResult outcome (λ p. Passes p setup n text old new) (λ why. Stops why setup n text old new)
 
 -- the turn of the volume line
 pub record IsOpening (setup : Setup) (text : List ℕ) (t : Turn) : Type 0 where
   pub spelled : line_text (line_of t.happening) ≡ text
-  pub no_remark : is_remark text ≡ false
+  pub in_place : IsLine None (line_of t.happening)
   pub silent : t.notes ≡ []
   pub volume : t.happening ≡ Opens setup
 
@@ -241,9 +249,11 @@ status_at stop.NoMemory k = NoMemory
 -- The lines so far are performed, and these are left; line is the number of the next line, event that of the next event.
 pub record Sofar (source : List ℕ) (setup : Setup) (left : List (List ℕ)) (line event : ℕ) (old now : Option (List ℕ)) : Type 0 where
   pub history : History
+  pub in_place : AreInPlace history
   pub legal : Legal history
   pub volume : volume_of history ≡ Some setup
   pub next : next_event history ≡ event
   pub leaves : Leaves source history left
+  pub begun : 1 ≤ length (leaves.performed)
   pub number : line ≡ length (leaves.performed) + 1
   pub took : Appends old now (history_text history)

@@ -36,9 +36,13 @@ abbrev pub is_remark : List ℕ → Bool
 is_remark [] = false
 is_remark (b ∷ bs) = b == 61
 
--- the lines that aren't passed over
 abbrev pub without_remarks : List (List ℕ) → List (List ℕ)
 without_remarks texts = filter (λ text. not (is_remark text)) texts
+
+-- the lines that aren't passed over; the first never is
+abbrev pub kept_lines : List (List ℕ) → List (List ℕ)
+kept_lines [] = []
+kept_lines (first ∷ others) = first ∷ without_remarks others
 
 -- ---- a line that isn't performed
 
