@@ -2,3 +2,4 @@ pub mod Canonical
 pub mod Lists
 pub mod Replies
 pub mod ResultReaders
+pub mod Fits

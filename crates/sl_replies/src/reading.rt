@@ -3,6 +3,7 @@ ghost use Rattle.sl_defs.specs.Items.{Gives};
 ghost use Rattle.sl_items.specs.Reading.{GivesArgs};
 ghost use Rattle.sl_replies.specs.Reading.{changed_at, link_at, rename_at, reply_at, reply_of};
 ghost use Rattle.sl_replies.specs.Results.{IsReplyTo};
+ghost use Rattle.sl_replies.specs.Texts.{FitsReply};
 ghost use Rattle.sl_types.specs.declared.reply.Reply.{Reply};
 ghost use Rattle.sl_types.specs.declared.reply.Reply.TheVariants as reply;
 
@@ -118,6 +119,8 @@ fn read_whole(alloc: Global, procedure: u32, bytes: &[u8]) -> Result<Reply, Args
 pub fn read_reply(alloc: Global, procedure: u32, bytes: &[u8]) -> Result<Reply, ArgsFault>
     ensures exact { GivesArgs (λ r. r) result (reply_of procedure bytes.now) }
     ensures found { IfOk result (λ r. IsReplyTo procedure r bytes.now) }
+    // It can be written.
+    ensures fits { IfOk result FitsReply }
     ensures garbage { result ≡ Err ArgsFault.Garbage → (r : Reply) → IsReplyTo procedure r bytes.now → ⊥ }
 {
     read_whole(alloc, procedure, bytes)
