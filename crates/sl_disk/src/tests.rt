@@ -2,22 +2,28 @@ use super::*;
 use std::test::Fail;
 use std::{env, fs};
 
+/// Two writes behind a sync, one over the old end and one past a gap, as each image shows them.
 #[test]
-fn images_show_a_write(rt: HostRuntime) -> Result<(), Fail> {
+fn images_show_writes(rt: HostRuntime) -> Result<(), Fail> {
     let alloc = rt.alloc();
     let wanted = [
         b"abcd".to_vec(alloc)?,
-        b"abxyz".to_vec(alloc)?,
-        b"abxd\0".to_vec(alloc)?,
-        b"ab\xf7\xf8\xf9".to_vec(alloc)?,
+        b"abxyz\0\0uv".to_vec(alloc)?,
+        b"abxd\0\0\0u\0".to_vec(alloc)?,
+        b"ab\xf7\xf8\xf9\xfa\xfb\xfc\xfd".to_vec(alloc)?,
+        b"ab\x9e\x9f\xa0\xa1\xa2\xa3\xa4".to_vec(alloc)?,
+        b"abEFGHIJK".to_vec(alloc)?,
+        b"ab\xec\xed\xee\xef\xf0\xf1\xf2".to_vec(alloc)?,
+        b"ab\x93\x94\x95\x96\x97\x98\x99".to_vec(alloc)?,
     ];
     for (image, bytes) in wanted.iter().enumerate() {
         let mut shelf = MemShelf::new(alloc)?;
         shelf.write_at(5, 0, b"abcd")?;
         shelf.sync(5)?;
         shelf.write_at(5, 2, b"xyz")?;
+        shelf.write_at(5, 7, b"uv")?;
         shelf.crash(5, image as u64)?;
-        let mut found = [0; 8];
+        let mut found = [0; 16];
         let some = shelf.read(5, 0, &mut found)?;
         let (front, _) = found.split_at(some);
         assert_eq!(rt; front, bytes.as_slice(), "image {image}");

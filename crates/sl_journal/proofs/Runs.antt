@@ -25,7 +25,7 @@ others_then disk old mid new first then = record {
 
 -- before the first call
 pub started : (disk : ℕ) (old : Situation) (P : List ℕ → Type 0) → ((c : List ℕ) → old.left_since disk old.moment c → P c) → LeavesOnly disk old old P
-started disk old P here = record { later = omega arith; others = others_same disk old; each = here; before = λ t c le left. inl left; together = λ t f le left. inl left }
+started disk old P here = record { later = omega arith; others = others_same disk old; each = here; before = λ t c le left. inl left; others_before = λ d t c other le left. inl left; together = λ t f le left. inl left }
 
 -- one call more, after which a stop leaves what has P
 pub goes_on : (disk : ℕ) (old mid new : Situation) (P : List ℕ → Type 0) → disk < 64 → LeavesOnly disk old mid P → Elapses mid new → LeavesOthers disk mid new → ((c : List ℕ) → new.may_leave disk c → P c) → LeavesOnly disk old new P
@@ -34,6 +34,8 @@ goes_on disk old mid new P known so_far time others here = record {
   others = others_then disk old mid new so_far.others others;
   each = λ c left. ⊎_elim (so_far.each c) (here c) (time.nothing_else disk old.moment c so_far.later left);
   before = λ t c le left. ⊎_elim (so_far.before t c le) (λ now. inr (here c now)) (time.nothing_else disk t c (omega (arith, le, so_far.later)) left);
+  others_before = λ d t c other le left. ⊎_elim (so_far.others_before d t c other le) (λ now. inr ((so_far.others.images d other c).1 ((others.images d other c).1 now)))
+      (time.nothing_else d t c (omega (arith, le, so_far.later)) left);
   together = λ t f le left. ⊎_elim (so_far.together t f le) (λ now. inr (here (f disk) (now disk known), λ d below other. (so_far.others.images d other (f d)).1 ((others.images d other (f d)).1 (now d below))))
       (time.no_others_together t f (omega (arith, le, so_far.later)) left);
 }
@@ -45,6 +47,7 @@ chain disk old mid new P Q first then so = record {
   others = others_then disk old mid new first.others then.others;
   each = λ c left. ⊎_elim (first.each c) (so c) (then.before old.moment c first.later left);
   before = λ t c le left. ⊎_elim (first.before t c le) (λ now. inr (so c now)) (then.before t c (omega (arith, le, first.later)) left);
+  others_before = λ d t c other le left. ⊎_elim (first.others_before d t c other le) (λ now. inr ((first.others.images d other c).1 now)) (then.others_before d t c other (omega (arith, le, first.later)) left);
   together = λ t f le left. ⊎_elim (first.together t f le) (λ now. inr (so (f disk) now.0, λ d below other. (first.others.images d other (f d)).1 (now.1 d below other)))
       (then.together t f (omega (arith, le, first.later)) left);
 }
@@ -55,6 +58,7 @@ weaker disk old new P Q run so = record {
   others = run.others;
   each = λ c left. so c (run.each c left);
   before = λ t c le left. ⊎_elim (λ p. inl p) (λ now. inr (so c now)) (run.before t c le left);
+  others_before = run.others_before;
   together = λ t f le left. ⊎_elim (λ p. inl p) (λ now. inr (so (f disk) now.0, now.1)) (run.together t f le left);
 }
 

@@ -9,6 +9,8 @@ pub record LeavesOnly (disk : ℕ) (old new : Situation) (P : List ℕ → Type 
   pub each : (c : List ℕ) → new.left_since disk old.moment c → P c
   -- for a run that began earlier
   pub before : (t : ℕ) (c : List ℕ) → t ≤ old.moment → new.left_since disk t c → old.left_since disk t c ⊎ P c
+  -- for a run that began earlier, on one other disk
+  pub others_before : (d t : ℕ) (c : List ℕ) → d ≢ disk → t ≤ old.moment → new.left_since d t c → old.left_since d t c ⊎ old.may_leave d c
   -- for all disks at one and the same moment
   pub together : (t : ℕ) (f : ℕ → List ℕ) → t ≤ old.moment → new.left_together t f
       → old.left_together t f ⊎ (P (f disk) × ((d : ℕ) → d < 64 → d ≢ disk → old.may_leave d (f d)))

@@ -116,3 +116,112 @@ fn a_stop_inside_any_call_leaves_what_was_acknowledged(rt: HostRuntime) -> Resul
     }
     Ok(())
 }
+
+/// Fresh disks that are longer than what a making writes: what stands behind is left, and doesn't count.
+#[test]
+fn a_longer_fresh_disk_is_written_over(rt: HostRuntime) -> Result<(), Fail> {
+    let alloc = rt.alloc();
+    let mut shelf = MemShelf::new(alloc)?;
+    let mut old = vec![in alloc; 1; 40]?;
+    old[0] = 0;
+    shelf.write_at(16, 0, &old)?;
+    let (_, records) = Journal::open(alloc, &mut shelf, 16, &SETUP)?;
+    assert_eq!(rt; records.len(), 0);
+    let bytes = bytes_of(alloc, &mut shelf)?;
+    assert_eq!(rt; bytes.len(), 40);
+    let (first, behind) = bytes.split_at(1);
+    let (head, rest) = behind.split_at(20);
+    assert_eq!(rt; first, [1].as_slice());
+    assert_eq!(rt; head, HEAD.as_slice());
+    let (gate, rest) = rest.split_at(1);
+    assert_eq!(rt; gate, [0].as_slice());
+    assert_eq!(rt; rest, [1; 18].as_slice());
+    let (mut journal, _) = Journal::open(alloc, &mut shelf, 16, &SETUP)?;
+    journal.append(&mut shelf, b"ab")?;
+    shelf.crash(16, 0)?;
+    let (_, records) = Journal::open(alloc, &mut shelf, 16, &SETUP)?;
+    assert_eq!(rt; records.len(), 1);
+    Ok(())
+}
+
+/// How an opening's calls left a disk.
+#[derive(Clone, Copy, Debug, PartialEq, Eq)]
+struct Seen {
+    size: u64,
+    first: u8,
+}
+
+fn look(shelf: &mut MemShelf) -> Result<Seen, Fail> {
+    let mut first = [9];
+    shelf.read(16, 0, &mut first)?;
+    Ok(Seen {
+        size: shelf.len(16)?,
+        first: first[0],
+    })
+}
+
+/// The device calls of opening a disk of the one byte 7, which isn't synced: the sync, the length, the read, then the
+/// making, which writes a closed byte, the head and the open byte, each with a sync behind it. The call of this number
+/// fails; beside it stands what a read then gives, and what a stop leaves that takes back what isn't synced.
+#[test]
+fn an_opening_calls_in_order(rt: HostRuntime) -> Result<(), Fail> {
+    let old = Seen { size: 1, first: 7 };
+    let closed = Seen { size: 1, first: 0 };
+    let headed = Seen { size: 22, first: 0 };
+    let open = Seen { size: 22, first: 1 };
+    let none = Seen { size: 0, first: 9 };
+    let wanted = [
+        (old, none),
+        (old, old),
+        (old, old),
+        (old, old),
+        (closed, old),
+        (closed, closed),
+        (headed, closed),
+        (headed, headed),
+        (open, headed),
+        (open, open),
+    ];
+    for call in 1..11 {
+        let (reads, left) = wanted[call as usize - 1];
+        let mut shelf = MemShelf::new(rt.alloc())?;
+        shelf.write_at(16, 0, &[7])?;
+        shelf.arm(16, call, Arm::Fail);
+        let opened = Journal::open(rt.alloc(), &mut shelf, 16, &SETUP).is_ok();
+        assert_eq!(rt; opened, call == 10, "call {call}");
+        if opened {
+            assert!(rt; shelf.len(16).is_err());
+        }
+        assert_eq!(rt; look(&mut shelf)?, reads, "call {call}");
+        shelf.crash(16, 0)?;
+        assert_eq!(rt; look(&mut shelf)?, left, "call {call}");
+    }
+    Ok(())
+}
+
+/// How many device calls an opening makes: the sync and the length, a read where there is something, four writes and
+/// syncs of a making, and two more where the first byte isn't closed.
+#[test]
+fn an_opening_makes_so_many_calls(rt: HostRuntime) -> Result<(), Fail> {
+    let alloc = rt.alloc();
+    let mut made = HEAD.to_vec(alloc)?;
+    made.insert(0, 1)?;
+    made.push(0)?;
+    let table = [
+        (Vec::new(alloc), 8),
+        (b"\x07".to_vec(alloc)?, 9),
+        (b"\0".to_vec(alloc)?, 7),
+        (b"\0\x01".to_vec(alloc)?, 7),
+        (made, 3),
+    ];
+    for (bytes, calls) in table.iter() {
+        for call in 1..11 {
+            let mut shelf = MemShelf::new(alloc)?;
+            shelf.write_at(16, 0, bytes)?;
+            shelf.arm(16, call, Arm::Fail);
+            let opened = Journal::open(alloc, &mut shelf, 16, &SETUP).is_ok();
+            assert_eq!(rt; opened, call > *calls, "call {call} of {bytes:?}");
+        }
+    }
+    Ok(())
+}
