@@ -1,11 +1,9 @@
 -- Each reader of arguments reads exactly what the grammar spells.
-use Rattle.std.proofs.Common.{◌≡◌, ℕ, zero, suc, ◌+◌, ◌^◌, ◌<◌, ◌≤◌, Bool, true, false, cond, eqb, List, [], ◌∷◌, ◌++◌, length, Option, Some, None, Result, Ok, Err, refl, sym, ap, subst, ◌∙◌, append-nil, arith}
-use Rattle.std.proofs.lemmas.Bool.{eqb-true}
+use Rattle.std.proofs.Common.{◌≡◌, ℕ, zero, suc, ◌^◌, ◌<◌, cond, eqb, List, [], ◌++◌, Option, Some, None, Result, Ok, Err, refl, sym, ap, subst, ◌∙◌, arith}
 use Rattle.std.specs.Prelude.{IfOk}
-use Rattle.sl_defs.specs.Items.{AreBytes, u32_at, u64_at}
-use Rattle.sl_defs.specs.Parts.{◌⨾◌, IsU32, IsU64, IsOptional, IsVoid, void_at, mapped, ◌⊗◌}
-use Rattle.sl_defs.proofs.ItemLaws.{Takes}
-use Rattle.sl_defs.proofs.Readers.{IsReader, Took, AreArms, same_some, made, takes_nothing, u32_reader, u64_reader, both, mapped_takes, mapped_found, structure, union, optional}
+use Rattle.sl_defs.specs.Items.{AreBytes}
+use Rattle.sl_defs.specs.Parts.{mapped}
+use Rattle.sl_defs.proofs.Readers.{IsReader, Took, same_some, made, takes_nothing, u32_reader, u64_reader, both, mapped_takes, mapped_found, structure, union, optional}
 use Rattle.sl_types.specs.declared.call.CreateHow.{CreateHow}
 use Rattle.sl_types.specs.declared.call.CreateHow.TheVariants as how
 use Rattle.sl_types.specs.declared.call.Device.{Device}
@@ -15,8 +13,8 @@ use Rattle.sl_types.specs.declared.call.Call.{Call}
 use Rattle.sl_types.specs.declared.call.Call.TheVariants.{Null, Getattr, Setattr, Lookup, Access, Readlink, Read, Write, Create, Mkdir, Symlink, Mknod, Remove, Rmdir, Rename, Link, Readdir, Readdirplus, Fsstat, Fsinfo, Pathconf, Commit}
 use Rattle.sl_types.specs.declared.fault.ArgsFault.{ArgsFault}
 use Rattle.sl_types.specs.declared.fault.ArgsFault.TheVariants as fault
-use Rattle.sl_items.specs.Reading.{fh_at, bytes_at, time_at, sattr_at, stable_at, GivesArgs}
-use Rattle.sl_items.specs.Spelling.{IsFh, IsBytes, IsTime, IsSattr, IsStable}
+use Rattle.sl_items.specs.Reading.{GivesArgs}
+use Rattle.sl_items.proofs.Choices.{chosen}
 use Rattle.sl_items.proofs.DataReaders.{fh_reader, bytes_reader, time_reader, sattr_reader, stable_reader}
 use Rattle.sl_calls.specs.Args.{IsDirOp, create_mode, IsCreateArm, IsCreateHow, IsDevice, node_kind, IsNodeArm, IsNodeData, procedure_of, IsArgs, BeginsWithArgs, FitsDirOp, FitsLengths}
 use Rattle.sl_calls.specs.Reading.{dir_op_at, create_arm_at, create_how_at, device_at, node_arm_at, node_data_at, setattr_at, setattr_call, access_at, access_call, read_at, read_call, write_at, write_call, create_at, create_call, mkdir_at, mkdir_call, symlink_at, symlink_call, mknod_at, mknod_call, rename_at, rename_call, link_at, link_call, readdir_at, readdir_call, readdirplus_at, readdirplus_call, commit_at, commit_call, object_at, entry_at, entry_call, args_at}
@@ -215,14 +213,6 @@ args_found (Pathconf object) text rest is = pathconf_reads.found object text res
 args_found (Commit file offset count) text rest is = commit_reads.found (file, (offset, count)) text rest is
 
 -- ---- what is read is spelled
-
--- one of two readers, by the procedure's number
-chosen : {A : Type 0} (n m : ℕ) (f g : List ℕ → Option A) (bytes : List ℕ) (z : Option A) (P : Type 0) → cond (eqb n m) f g bytes ≡ z → (n ≡ m → f bytes ≡ z → P) → (g bytes ≡ z → P) → P
-chosen n m f g bytes z P e k l =
-    elim (eqb n m) as (λ b. eqb n m ≡ b → cond b f g bytes ≡ z → P) [
-      | true ↦ λ is h. k (eqb-true n m is) h
-      | false ↦ λ is h. l h
-    ] refl e
 
 -- the reader of procedure m, or what comes after it
 arm : {A : Type 0} {m : ℕ} {read : List ℕ → Option (Call × List ℕ)} {call : A → Call} (r : Reads m read call) (g : List ℕ → Option (Call × List ℕ)) (n : ℕ) (bytes : List ℕ) (x : Call × List ℕ) → AreBytes bytes → cond (eqb n m) read g bytes ≡ Some x

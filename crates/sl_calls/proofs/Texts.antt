@@ -1,7 +1,7 @@
 -- The canonical text of a call in range is in the grammar.
-use Rattle.std.proofs.Common.{◌≡◌, ℕ, ◌+◌, ◌^◌, ◌<◌, ◌≤◌, List, [], ◌++◌, length, Option, Some, None, Result, Ok, Err, refl, sym, ap, ◌∙◌, append-nil, arith}
+use Rattle.std.proofs.Common.{◌≡◌, ℕ, List, [], Some, Result, Ok, Err, refl, sym, ap, ◌∙◌, append-nil, arith}
 use Rattle.std.specs.Prelude.{OnOk}
-use Rattle.sl_defs.specs.Items.{u32_text, u64_text, opaque_text}
+use Rattle.sl_defs.specs.Items.{u32_text, u64_text}
 use Rattle.sl_defs.proofs.Readers.{same_some}
 use Rattle.sl_types.specs.declared.call.CreateHow.{CreateHow}
 use Rattle.sl_types.specs.declared.call.CreateHow.TheVariants as how

@@ -1,9 +1,7 @@
 -- The arguments of each procedure (RFC 1813, section 3.3): which texts spell a call's, and their canonical text.
-use Rattle.std.specs.Prelude.{◌≡◌, ℕ, ◌^◌, ◌<◌, ◌≤◌, List, [], ◌++◌, Option, IfSome}
+use Rattle.std.specs.Prelude.{◌≡◌, ℕ, List, [], ◌++◌, IfSome}
 use Rattle.sl_defs.specs.Items.{u32_text, u64_text, opaque_text}
 use Rattle.sl_defs.specs.Parts.{◌⨾◌, IsVoid, IsU32, IsU64, IsUnion, IsOptional, optional_text}
-use Rattle.sl_defs.specs.declared.setup.Time.{Time}
-use Rattle.sl_types.specs.declared.attributes.Sattr.{Sattr}
 use Rattle.sl_types.specs.declared.call.CreateHow.{CreateHow}
 use Rattle.sl_types.specs.declared.call.CreateHow.TheVariants as how
 use Rattle.sl_types.specs.declared.call.Device.{Device}

@@ -1,6 +1,6 @@
 -- Reading the arguments of each procedure from the front of some bytes.
-use Rattle.std.specs.Prelude.{◌≡◌, ℕ, zero, suc, List, Option, Some, None, ◌==◌, if◌then◌else◌}
-use Rattle.sl_defs.specs.Items.{◌>>=◌, u32_at, u64_at}
+use Rattle.std.specs.Prelude.{ℕ, zero, suc, List, Option, None, ◌==◌, if◌then◌else◌}
+use Rattle.sl_defs.specs.Items.{u32_at, u64_at}
 use Rattle.sl_defs.specs.Parts.{void_at, mapped, ◌⊗◌, union_at, optional_at}
 use Rattle.sl_defs.specs.declared.setup.Time.{Time}
 use Rattle.sl_types.specs.declared.attributes.Sattr.{Sattr}

@@ -1,3 +1,5 @@
+mod skipping;
+
 use super::rows::rows;
 use super::*;
 use sl_types::{ArgsFault, Call};

@@ -1,3 +1,4 @@
 pub mod DataReaders
 pub mod DataTexts
 pub mod Appended
+pub mod Choices

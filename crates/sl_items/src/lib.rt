@@ -1,9 +1,11 @@
 //! Reading and writing the items that calls and replies share (RFC 1813, section 2.5).
 #![tactic(auto)]
 
+mod borrowing;
 mod reading;
 mod writing;
 
+pub use borrowing::{borrow_bytes, borrow_fh};
 pub use reading::{
     take_bytes, take_fattr, take_fh, take_kind, take_name, take_optional_fattr, take_optional_fh,
     take_optional_time, take_optional_u32, take_optional_u64, take_sattr, take_set_time,

@@ -40,3 +40,12 @@ fn attributes_are_read_again(rt: HostRuntime) -> Result<(), Fail> {
     assert_eq!(rt; take_optional_fattr(&mut cursor)?, Some(fattr));
     Ok(())
 }
+
+#[test]
+fn handles_and_names_are_seen_where_they_stand(rt: HostRuntime) -> Result<(), Fail> {
+    let mut cursor = Cursor::new(b"\0\0\0\x01h\x01\x02\x03\0\0\0\x02ab\0\0\0\0\0A");
+    assert_eq!(rt; borrow_fh(&mut cursor)?, b"h".as_slice());
+    assert_eq!(rt; borrow_bytes(&mut cursor)?, b"ab".as_slice());
+    assert!(rt; borrow_fh(&mut cursor).is_err());
+    Ok(())
+}

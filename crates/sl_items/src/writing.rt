@@ -1,7 +1,7 @@
 //! Items at the end of some bytes.
 //!
 //! A function that writes several items may leave some of them behind what stood there before, where memory ran out.
-ghost use Rattle.std.specs.Prelude.{◌≡◌, ◌++◌, ◌≤◌, ◌<◌, ◌^◌, length, take, OnOk, OnErr, IfSome};
+ghost use Rattle.std.specs.Prelude.{◌≡◌, ◌++◌, ◌<◌, length, take, OnOk, OnErr, IfSome};
 ghost use Rattle.sl_defs.specs.Items.{u32_text, u64_text, opaque_text};
 ghost use Rattle.sl_defs.specs.Parts.{optional_text};
 ghost use Rattle.sl_items.specs.Spelling.{FitsBytes, FitsFh, fattr_front_text, fattr_place_text, fattr_text, fattr_times_text, sattr_text, set_time_text, stable_number, time_text};

@@ -109,7 +109,7 @@ pub record Unread (bytes rest : List ℕ) (done : List (List ℕ)) : Type 0 wher
 pub unread_all : (bytes : List ℕ) → Unread bytes bytes []
 unread_all bytes = record { goes_on = λ records from. (records, refl, from) }
 
-one_more : (rest after payload : List ℕ) (more : List (List ℕ)) → IsRecord rest payload after → FromGate rest more → (others : List (List ℕ)) × (more ≡ payload ∷ others) × FromGate after others
+pub one_more : (rest after payload : List ℕ) (more : List (List ℕ)) → IsRecord rest payload after → FromGate rest more → (others : List (List ℕ)) × (more ≡ payload ∷ others) × FromGate after others
 unfolding record_text
 one_more rest after payload [] is from = absurd (from.is_closed (ap (λ (l : List ℕ). get_or l 0 0) (sym from.spelled ∙ is.spelled)))
 one_more rest after payload (p ∷ others) is from =

@@ -1,3 +1,4 @@
 pub mod Format
+pub mod Laws
 pub mod Moments
 pub mod Settled

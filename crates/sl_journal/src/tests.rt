@@ -7,7 +7,7 @@ use std::alloc::Global;
 use std::process::Abort;
 use std::test::Fail;
 
-const SETUP: Setup = Setup {
+pub(crate) const SETUP: Setup = Setup {
     volume: 7,
     policy: Policy::Switch(3),
     dirs: 4,
@@ -206,13 +206,16 @@ fn an_opening_makes_so_many_calls(rt: HostRuntime) -> Result<(), Fail> {
     let alloc = rt.alloc();
     let mut made = HEAD.to_vec(alloc)?;
     made.insert(0, 1)?;
+    let mut longer = made.clone()?;
     made.push(0)?;
+    longer.extend_from_slice(&[1, 0, 0, 0, 1, b'a', 1, 0, 0, 0, 0, 0])?;
     let table = [
         (Vec::new(alloc), 8),
         (b"\x07".to_vec(alloc)?, 9),
         (b"\0".to_vec(alloc)?, 7),
         (b"\0\x01".to_vec(alloc)?, 7),
         (made, 3),
+        (longer, 3),
     ];
     for (bytes, calls) in table.iter() {
         for call in 1..11 {
@@ -223,5 +226,43 @@ fn an_opening_makes_so_many_calls(rt: HostRuntime) -> Result<(), Fail> {
             assert_eq!(rt; opened, call > *calls, "call {call} of {bytes:?}");
         }
     }
+    Ok(())
+}
+
+/// What an opening finds. Where memory is refused it says so, and the next opening has it.
+fn found(rt: &impl Abort, alloc: Global, shelf: &mut MemShelf) -> Result<(Journal, Records), Fail> {
+    match Journal::open(alloc, shelf, 16, &SETUP) {
+        Ok(found) => Ok(found),
+        Err(fault) => {
+            assert_eq!(rt; fault, JournalFault::NoMemory);
+            Ok(Journal::open(alloc, shelf, 16, &SETUP)?)
+        }
+    }
+}
+
+/// Any one allocation may be refused, as by `rt try --test --fail-alloc N`: the call that it is refused says so, and so
+/// does each later append of that journal. The next opening has what was acknowledged, and at most one record more.
+#[test]
+fn refused_memory_is_told(rt: HostRuntime) -> Result<(), Fail> {
+    let alloc = rt.alloc();
+    let Ok(mut shelf) = MemShelf::new(alloc) else {
+        return Ok(());
+    };
+    let mut known = 0;
+    for payload in [b"one", b"two", b"six"] {
+        let (mut journal, records) = found(&rt, alloc, &mut shelf)?;
+        let before = records.len();
+        assert!(rt; before == known || before == known.saturating_add(1));
+        known = before;
+        match journal.append(&mut shelf, payload) {
+            Ok(()) => known = known.saturating_add(1),
+            Err(fault) => {
+                assert_eq!(rt; fault, JournalFault::NoMemory);
+                assert!(rt; journal.append(&mut shelf, payload) == Err(fault));
+            }
+        }
+    }
+    let (_, records) = found(&rt, alloc, &mut shelf)?;
+    assert!(rt; records.len() == known || records.len() == known.saturating_add(1));
     Ok(())
 }

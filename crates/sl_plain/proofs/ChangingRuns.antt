@@ -1,5 +1,5 @@
 -- The procedures that change something, step by step.
-use Rattle.std.proofs.Common.{◌≡◌, ℕ, List, Option, Ok}
+use Rattle.std.proofs.Common.{◌≡◌, ℕ, List, Option, Some, Ok}
 use Rattle.std.specs.Prelude.{◌||◌, ◌&&◌, ◌==◌, nat_lt, nat_le, length, not, is_some, take}
 use Rattle.sl_defs.specs.declared.setup.Time.{Time}
 use Rattle.sl_defs.specs.declared.note.Choice.{Choice}
@@ -17,7 +17,8 @@ use Rattle.sl_model.specs.Volume.{is_dir, is_reg}
 use Rattle.sl_model.specs.Checks.{live, see, entry, object, directory, has_bad_time, is_dots, is_dot, is_dot_dot}
 use Rattle.sl_model.specs.Looking.{answering}
 use Rattle.sl_model.specs.Changing.{guarded, guarded_by, same_time, is_too_big, setting, setattr, max_size, max_links, writing, writable, wrote, write, write_in, write_at, write_none, given, is_guarded, same_create, recreating, creating, create, create_at, create_present, create_absent, absent, making_directory, mkdir, making_link, symlink, has_bad_special_time, special_of, special_or, making_special, mknod, removal, remove, directory_removal, rmdir, climbs, see_if, is_bad_target, is_full, renaming, rename_to, rename_in, rename, linking, link}
-use Rattle.sl_plain.specs.Steps.{refused, checked_name, checked_names}
+use Rattle.sl_model.specs.Procedures.{with_handle}
+use Rattle.sl_plain.specs.Steps.{refused, checked_name, checked_names, read_handle}
 use Rattle.sl_plain.proofs.Runs.{runs}
 
 pub guarded_by_run : (eye : Sight) (f : ℕ) (t : Time) → run eye (guarded_by f t) ≡
@@ -88,3 +89,12 @@ pub absent_run : (eye : Sight) (h : Handle) (name : List ℕ) → run eye (absen
     and_then (refused (is_dots name) Exist) (λ u. refused (is_some (eye.find h.fileid name)) Exist)
 unfolding absent
 absent_run eye h name = simp runs
+
+pub see_if_run : (eye : Sight) (e : Entry) → run eye (see_if (Some e)) ≡
+    and_then (run eye (see e.fileid)) (λ n. Ok (Some n))
+unfolding see_if
+see_if_run eye e = simp runs
+
+pub write_handle_run : (eye : Sight) (file : List ℕ) (cred : Cred) (offset : ℕ) (count : ℕ) (asked : Stable) (bytes : List ℕ) (now : Time) (choice : Choice) → run eye (with_handle file (λ h. write cred h offset count asked bytes now choice)) ≡
+    and_then (read_handle file) (λ h. and_then (run eye (object cred h)) (λ u. and_then (refused (not (is_reg h.kind) || nat_lt (length bytes) count) Inval) (λ u. run eye (write_in h offset count asked bytes now choice))))
+write_handle_run eye file cred offset count asked bytes now choice = simp runs

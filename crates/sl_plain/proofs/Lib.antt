@@ -4,3 +4,6 @@ pub mod VolumeLaws
 pub mod Runs
 pub mod LookingRuns
 pub mod ChangingRuns
+pub mod OutcomeLaws
+pub mod CopyLaws
+pub mod ListingLaws

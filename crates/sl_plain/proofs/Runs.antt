@@ -4,6 +4,8 @@ use Rattle.sl_types.specs.declared.kind.Status.{Status}
 use Rattle.sl_types.specs.declared.handle.Handle.{Handle}
 use Rattle.sl_types.specs.Handles.{handle_of}
 use Rattle.sl_model.specs.Plan.{Plan, Done, Stop, Look, See, Find, Climb, Names, Text, Bytes, Verifier, Want, Key, Sight, run, and_then, ◌>>=◌}
+use Rattle.sl_model.specs.Looking.{Outcome}
+use Rattle.sl_model.specs.Procedures.{with_handle, with_handles}
 use Rattle.sl_model.specs.Checks.{refuse, handle, handle_or, checked, checked_both, want, text_of, bytes_of, names_behind, find, verifier}
 use Rattle.sl_plain.specs.Steps.{refused, checked_name, checked_names, handle_from, read_handle}
 
@@ -71,3 +73,12 @@ unfolding run
 run_verifier s = refl
 
 pub ruleset runs = (run_bind, run_done, run_want, run_refuse, run_handle, run_checked, run_checked_both, run_text, run_bytes, run_names, run_find, run_verifier)
+
+-- the handles are read first
+pub with_handle_run : (eye : Sight) (bytes : List ℕ) (f : Handle → Plan Outcome) → run eye (with_handle bytes f) ≡
+    and_then (read_handle bytes) (λ h. run eye (f h))
+with_handle_run eye bytes f = simp runs
+
+pub with_handles_run : (eye : Sight) (first second : List ℕ) (f : Handle → Handle → Plan Outcome) → run eye (with_handles first second f) ≡
+    and_then (read_handle first) (λ a. and_then (read_handle second) (λ b. run eye (f a b)))
+with_handles_run eye first second f = simp runs

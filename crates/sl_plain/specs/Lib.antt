@@ -3,3 +3,5 @@ pub mod Unstables
 pub mod Code
 pub mod Steps
 pub mod Found
+pub mod Outcomes
+pub mod Performed

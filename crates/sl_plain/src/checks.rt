@@ -5,11 +5,10 @@ ghost use Rattle.sl_model.specs.Checks as checks;
 ghost use Rattle.sl_model.specs.Changing as changing;
 ghost use Rattle.sl_model.specs.Volume as volume;
 ghost use Rattle.sl_plain.specs.Steps as steps;
-ghost use Rattle.sl_types.specs.Numbers as numbers;
 
 use sl_types::{CreateHow, Kind, Sattr, SetTime, Status};
 
-// Fails where the test is true.
+/// Fails where the test is true.
 #[tactic(auto, unfolding(crate::specs::Steps::refused))]
 pub(crate) fn refuse(test: bool, status: Status) -> Result<(), Status>
     ensures { steps.refused test status ≡ result }
@@ -17,18 +16,21 @@ pub(crate) fn refuse(test: bool, status: Status) -> Result<(), Status>
     if test { Err(status) } else { Ok(()) }
 }
 
+/// Whether the name is `.`.
 pub(crate) fn is_dot(name: &[u8]) -> bool
     ensures { result ≡ checks.is_dot name.now }
 {
     name == b".".as_slice()
 }
 
+/// Whether the name is `..`.
 pub(crate) fn is_dot_dot(name: &[u8]) -> bool
     ensures { result ≡ checks.is_dot_dot name.now }
 {
     name == b"..".as_slice()
 }
 
+/// Whether the name is `.` or `..`.
 pub(crate) fn is_dots(name: &[u8]) -> bool
     ensures { result ≡ checks.is_dots name.now }
 {
@@ -47,6 +49,7 @@ fn is_bad(name: &[u8]) -> bool
     name.len() == 0 || has_bad_byte(name)
 }
 
+/// The checks of a name.
 #[tactic(auto, unfolding(crate::specs::Steps::checked_name))]
 pub(crate) fn checked(name: &[u8]) -> Result<(), Status>
     ensures { steps.checked_name name.now ≡ result }
@@ -55,6 +58,7 @@ pub(crate) fn checked(name: &[u8]) -> Result<(), Status>
     refuse(is_bad(name), Status::Acces)
 }
 
+/// The checks of two names.
 #[tactic(auto, unfolding(crate::specs::Steps::checked_names))]
 pub(crate) fn checked_both(a: &[u8], b: &[u8]) -> Result<(), Status>
     ensures { steps.checked_names a.now b.now ≡ result }
@@ -73,12 +77,14 @@ fn is_bad_time(set: SetTime) -> bool
     }
 }
 
+/// Whether a time that is given has nanoseconds past the second.
 pub(crate) fn has_bad_time(s: Sattr) -> bool
     ensures { result ≡ checks.has_bad_time s }
 {
     is_bad_time(s.atime) || is_bad_time(s.mtime)
 }
 
+/// Whether it is the kind of directories.
 pub(crate) fn is_dir(kind: Kind) -> bool
     ensures { result ≡ volume.is_dir kind }
 {
@@ -88,6 +94,7 @@ pub(crate) fn is_dir(kind: Kind) -> bool
     }
 }
 
+/// Whether it is the kind of regular files.
 pub(crate) fn is_reg(kind: Kind) -> bool
     ensures { result ≡ volume.is_reg kind }
 {
@@ -97,6 +104,7 @@ pub(crate) fn is_reg(kind: Kind) -> bool
     }
 }
 
+/// Whether it is the kind of symbolic links.
 pub(crate) fn is_lnk(kind: Kind) -> bool
     ensures { result ≡ volume.is_lnk kind }
 {
@@ -106,21 +114,7 @@ pub(crate) fn is_lnk(kind: Kind) -> bool
     }
 }
 
-// The number of a kind in packets.
-pub(crate) fn kind_number(kind: Kind) -> u32
-    ensures { result ≡ numbers.kind_number kind }
-{
-    match kind {
-        Kind::Reg => 1,
-        Kind::Dir => 2,
-        Kind::Blk => 3,
-        Kind::Chr => 4,
-        Kind::Lnk => 5,
-        Kind::Sock => 6,
-        Kind::Fifo => 7,
-    }
-}
-
+/// Whether a size is given that is above the largest.
 pub(crate) fn is_too_big(size: Option<u64>) -> bool
     ensures { result ≡ changing.is_too_big size }
 {
@@ -130,6 +124,7 @@ pub(crate) fn is_too_big(size: Option<u64>) -> bool
     }
 }
 
+/// The attributes that a CREATE gives.
 pub(crate) fn given(how: CreateHow) -> Sattr
     ensures { result ≡ changing.given how }
 {
@@ -147,6 +142,7 @@ pub(crate) fn given(how: CreateHow) -> Sattr
     }
 }
 
+/// Whether a CREATE is GUARDED.
 pub(crate) fn is_guarded(how: CreateHow) -> bool
     ensures { result ≡ changing.is_guarded how }
 {

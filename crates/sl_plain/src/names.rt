@@ -1,10 +1,15 @@
-ghost use Rattle.std.specs.Prelude.{◌≡◌, OnOk};
+ghost use Rattle.std.specs.Prelude.{◌≡◌, ℕ, [], map as each, OnOk, IfOk};
 ghost use Rattle.std.specs.FinMap as map;
+ghost use Rattle.sl_model.specs.Volume.{listed};
+ghost use Rattle.sl_plain.specs.Maps.{named};
 
-use sl_defs::NoMemory;
-use sl_model::Entry;
+use crate::lines::Lines;
+use sl_defs::{Bytes, NoMemory};
+use sl_model::{Entry, Listed};
+use sl_types::Name;
 use std::alloc::Global;
 use std::collections::BTreeMap;
+use std::collections::btree_map::Range;
 use std::marker::Model;
 
 /// Where a name stands: in a directory of this fileid.
@@ -12,6 +17,18 @@ use std::marker::Model;
 pub struct Place {
     pub dir: u64,
     pub name: Vec<u8>,
+}
+
+impl Place {
+    /// The place of this name in a directory.
+    pub fn of(alloc: Global, dir: u64, name: &[u8]) -> Result<Place, NoMemory>
+        ensures { IfOk result (λ place. (place.dir ≡ dir) × (place.name.items ≡ name.now)) }
+    {
+        match Vec::from_slice(alloc, name) {
+            Ok(name) => Ok(Place { dir, name }),
+            Err(_) => Err(NoMemory),
+        }
+    }
 }
 
 /// The names of a volume and what they lead to, which contracts see as the map from directory and name.
@@ -72,4 +89,64 @@ impl Names {
     {
         let _ = self.entries.remove(place);
     }
+
+    /// A directory's names whose cookies are above the given one, by rising cookie. Other directories' names aren't
+    /// looked at; each name is put into its place in turn, in the square of the directory's names.
+    pub(crate) fn listing(&self, alloc: Global, dir: u64, cookie: u64) -> Result<Lines, NoMemory>
+        ensures { IfOk result (λ lines. lines ≡ listed dir cookie [] (map.entries self.now)) }
+    {
+        let mut lines = Lines::new(alloc);
+        for (place, entry) in self.of_directory(alloc, dir) {
+            if place.dir == dir && entry.cookie > cookie {
+                lines.place(line_of(alloc, place, *entry)?)?;
+            }
+        }
+        Ok(lines)
+    }
+
+    // The names of a directory, and maybe of others.
+    fn of_directory(&self, alloc: Global, dir: u64) -> Range<'_, Place, Entry>
+        ensures { (cookie : ℕ) → listed dir cookie [] (each named result) ≡ listed dir cookie [] (map.entries self.now) }
+    {
+        let first = Place {
+            dir,
+            name: Vec::new(alloc),
+        };
+        match dir.checked_add(1) {
+            Some(next) => {
+                let end = Place {
+                    dir: next,
+                    name: Vec::new(alloc),
+                };
+                self.entries.range(first..end)
+            }
+            None => self.entries.range(first..),
+        }
+    }
+
+    /// Equal names, in memory of their own.
+    pub fn copy(&self, alloc: Global) -> Result<Names, NoMemory>
+        ensures { IfOk result (λ copy. copy ≡ self.now) }
+    {
+        let mut copy = Names::new(alloc);
+        for (place, entry) in self.entries.iter() {
+            copy.put(Place::of(alloc, place.dir, place.name.as_slice())?, *entry)?;
+        }
+        Ok(copy)
+    }
+}
+
+// The line of a name.
+fn line_of(alloc: Global, place: &Place, entry: Entry) -> Result<Listed, NoMemory>
+    ensures { IfOk result (λ line. line ≡ record { name = place.now.name.items; fileid = entry.fileid; kind = entry.kind; cookie = entry.cookie }) }
+{
+    let Ok(name) = Vec::from_slice(alloc, place.name.as_slice()) else {
+        return Err(NoMemory);
+    };
+    Ok(Listed {
+        name: Name::new(Bytes::new(name)),
+        fileid: entry.fileid,
+        kind: entry.kind,
+        cookie: entry.cookie,
+    })
 }

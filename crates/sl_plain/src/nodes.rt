@@ -1,4 +1,4 @@
-ghost use Rattle.std.specs.Prelude.{◌≡◌, OnOk};
+ghost use Rattle.std.specs.Prelude.{◌≡◌, ◌<◌, ◌^◌, OnOk, IfOk};
 ghost use Rattle.std.specs.FinMap as map;
 
 use sl_defs::NoMemory;
@@ -62,5 +62,24 @@ impl Nodes {
         ensures { self.new ≡ map.remove self.old fileid }
     {
         let _ = self.entries.remove(&fileid);
+    }
+
+    /// An equal map, in memory of its own.
+    pub fn copy(&self, alloc: Global) -> Result<Nodes, NoMemory>
+        ensures { IfOk result (λ copy. copy ≡ self.now) }
+    {
+        let mut copy = Nodes::new(alloc);
+        for (fileid, node) in self.entries.iter() {
+            copy.put(*fileid, *node)?;
+        }
+        Ok(copy)
+    }
+
+    /// How many nodes there are.
+    pub fn len(&self) -> usize
+        ensures len { result ≡ map.len self.now }
+        ensures few { result < 2 ^ 63 }
+    {
+        self.entries.len()
     }
 }

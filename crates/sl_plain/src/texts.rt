@@ -61,4 +61,15 @@ impl Texts {
     {
         let _ = self.entries.remove(&fileid);
     }
+
+    /// An equal map, in memory of its own.
+    pub fn copy(&self, alloc: Global) -> Result<Texts, NoMemory>
+        ensures { IfOk result (λ copy. copy ≡ self.now) }
+    {
+        let mut copy = Texts::new(alloc);
+        for (fileid, text) in self.entries.iter() {
+            copy.put(*fileid, text.copy()?)?;
+        }
+        Ok(copy)
+    }
 }

@@ -1,4 +1,4 @@
-ghost use Rattle.std.specs.Prelude.{◌≡◌, ◌++◌, ◌∷◌, [], map, ◌+◌, ◌^◌, ◌<◌, length, OnOk};
+ghost use Rattle.std.specs.Prelude.{◌≡◌, ◌++◌, ◌∷◌, [], map, ◌+◌, ◌^◌, ◌<◌, length, OnOk, IfOk};
 ghost use Rattle.sl_model.specs.Volume.{without_file, after_write, after_writes, byte_after, byte_after_write};
 ghost use Rattle.sl_plain.specs.Unstables.{write_of};
 
@@ -23,6 +23,19 @@ impl Pending {
             ctime: self.moment,
             ..node
         }
+    }
+
+    // An equal write, in memory of its own.
+    fn copy(&self) -> Result<Pending, NoMemory>
+        ensures { IfOk result (λ copy. write_of copy ≡ write_of self.now) }
+    {
+        let bytes = self.bytes.copy()?;
+        Ok(Pending {
+            fileid: self.fileid,
+            offset: self.offset,
+            bytes,
+            moment: self.moment,
+        })
     }
 
     // A file's byte after the write, where it was this one.
@@ -111,5 +124,21 @@ impl UnstableWrites {
             byte = write.byte_after(file, offset, byte);
         }
         byte
+    }
+
+    /// Equal writes, in memory of their own.
+    pub fn copy(&self) -> Result<UnstableWrites, NoMemory>
+        ensures { IfOk result (λ copy. copy ≡ self.now) }
+    {
+        let mut copy = UnstableWrites::new(self.allocator());
+        for write in &self.items {
+            copy.push(write.copy()?)?;
+        }
+        Ok(copy)
+    }
+
+    /// Where the list's memory comes from.
+    pub(crate) fn allocator(&self) -> Global {
+        *self.items.allocator()
     }
 }

@@ -1,4 +1,4 @@
-ghost use Rattle.std.specs.Prelude.{◌≡◌, OnOk};
+ghost use Rattle.std.specs.Prelude.{◌≡◌, OnOk, IfOk};
 ghost use Rattle.std.specs.FinMap as map;
 
 use sl_defs::NoMemory;
@@ -43,5 +43,16 @@ impl Used {
             return Err(NoMemory);
         };
         Ok(())
+    }
+
+    /// An equal map, in memory of its own.
+    pub fn copy(&self, alloc: Global) -> Result<Used, NoMemory>
+        ensures { IfOk result (λ copy. copy ≡ self.now) }
+    {
+        let mut copy = Used::new(alloc);
+        for (fileid, _) in self.entries.iter() {
+            copy.put(*fileid)?;
+        }
+        Ok(copy)
     }
 }

@@ -3,10 +3,14 @@ ghost use Rattle.std.specs.FinMap as map;
 ghost use Rattle.sl_model.specs.Volume as volume;
 ghost use Rattle.sl_model.specs.Volume.{PutNode, TakeNode, PutName, TakeName, PutText, PutBytes, AddWrite};
 ghost use Rattle.sl_model.specs.Perform as root;
+ghost use Rattle.sl_plain.specs.Outcomes.{change_of};
 ghost use Rattle.sl_plain.specs.Unstables.{write_of};
 
+use crate::change::Change;
+use crate::lines::Lines;
 use crate::names::{Names, Place};
 use crate::nodes::Nodes;
+use crate::outcome::Changes;
 use crate::pending::Pending;
 use crate::texts::Texts;
 use crate::unstable::UnstableWrites;
@@ -95,7 +99,7 @@ impl Volume {
         self.verifier
     }
 
-    // The text of a symbolic link.
+    /// The text of a symbolic link.
     pub(crate) fn text(&self, alloc: Global, fileid: u64) -> Result<Bytes, NoMemory>
         ensures { IfOk result (λ text. text ≡ (volume.sight self.now).text fileid) }
     {
@@ -110,7 +114,7 @@ impl Volume {
             .byte_after(file, offset, self.written.at(file, offset))
     }
 
-    // A file's bytes from an offset on, with its unstable writes.
+    /// A file's bytes from an offset on, with its unstable writes.
     pub(crate) fn bytes(
         &self,
         alloc: Global,
@@ -128,6 +132,67 @@ impl Volume {
             };
         }
         Ok(Bytes::new(bytes))
+    }
+
+    /// A directory's names behind a cookie, by rising cookie.
+    pub(crate) fn names_behind(
+        &self,
+        alloc: Global,
+        dir: u64,
+        cookie: u64,
+    ) -> Result<Lines, NoMemory>
+        ensures { IfOk result (λ lines. lines ≡ (volume.sight self.now).names dir cookie) }
+    {
+        self.names.listing(alloc, dir, cookie)
+    }
+
+    /// Whether the directory d is the directory a or below it. In a volume whose directories are no tree, as many
+    /// parents are looked at as there are nodes.
+    pub(crate) fn is_below(&self, a: u64, d: u64) -> bool
+        ensures { result ≡ (volume.sight self.now).below a d }
+    {
+        let mut at = d;
+        for _i in 0..self.nodes.len() + 1 {
+            if at == a {
+                return true;
+            }
+            if at == 1 {
+                return false;
+            }
+            match self.node(at) {
+                Some(node) => at = node.parent,
+                None => return false,
+            }
+        }
+        true
+    }
+
+    /// An equal volume, in memory of its own.
+    pub fn copy(&self) -> Result<Volume, NoMemory>
+        ensures { IfOk result (λ copy. copy ≡ self.now) }
+    {
+        let alloc = self.allocator();
+        let nodes = self.nodes.copy(alloc)?;
+        let names = self.names.copy(alloc)?;
+        let texts = self.texts.copy(alloc)?;
+        let written = self.written.copy(alloc)?;
+        let unstable = self.unstable.copy()?;
+        let used = self.used.copy(alloc)?;
+        Ok(Volume {
+            number: self.number,
+            nodes,
+            names,
+            texts,
+            written,
+            unstable,
+            verifier: self.verifier,
+            used,
+        })
+    }
+
+    /// Where the volume's memory comes from.
+    pub(crate) fn allocator(&self) -> Global {
+        self.unstable.allocator()
     }
 
     /// Makes a file's unstable writes stable.
@@ -152,6 +217,7 @@ impl Volume {
 
     // The changes, one thing at one key each.
 
+    /// Puts the node of a fileid. Its unstable writes are made stable first, and bytes past its size go.
     pub(crate) fn put_node(&mut self, fileid: u64, node: Node) -> Result<(), NoMemory>
         ensures { OnOk result (self.new ≡ volume.changed (PutNode fileid node) self.old) }
     {
@@ -161,6 +227,7 @@ impl Volume {
         self.used.put(fileid)
     }
 
+    /// Takes an object away, with its text, its bytes and its unstable writes.
     pub(crate) fn take_node(&mut self, fileid: u64)
         ensures { self.new ≡ volume.changed (TakeNode fileid) self.old }
     {
@@ -170,24 +237,28 @@ impl Volume {
         self.unstable.forget(fileid);
     }
 
+    /// Puts a name.
     pub(crate) fn put_name(&mut self, place: Place, entry: Entry) -> Result<(), NoMemory>
         ensures { OnOk result (self.new ≡ volume.changed (PutName place.dir place.name.items entry) self.old) }
     {
         self.names.put(place, entry)
     }
 
+    /// Takes a name away.
     pub(crate) fn take_name(&mut self, place: &Place)
         ensures { self.new ≡ volume.changed (TakeName place.now.dir place.now.name.items) self.old }
     {
         self.names.take(place);
     }
 
+    /// Puts the text of a symbolic link.
     pub(crate) fn put_text(&mut self, fileid: u64, text: Bytes) -> Result<(), NoMemory>
         ensures { OnOk result (self.new ≡ volume.changed (PutText fileid text) self.old) }
     {
         self.texts.put(fileid, text)
     }
 
+    /// Puts bytes of a file from an offset on.
     pub(crate) fn put_bytes(&mut self, file: u64, offset: u64, bytes: &[u8]) -> Result<(), NoMemory>
         requires { offset + length bytes.now ≤ 2 ^ 64 }
         ensures { OnOk result (self.new ≡ volume.changed (PutBytes file offset bytes.now) self.old) }
@@ -195,10 +266,42 @@ impl Volume {
         self.written.put_all(file, offset, bytes)
     }
 
+    /// One unstable write more.
     pub(crate) fn add_write(&mut self, write: Pending) -> Result<(), NoMemory>
         ensures { OnOk result (self.new ≡ volume.changed (AddWrite (write_of write)) self.old) }
     {
         self.unstable.push(write)
+    }
+
+    /// Makes one change.
+    pub(crate) fn change(&mut self, change: Change) -> Result<(), NoMemory>
+        ensures { OnOk result (self.new ≡ volume.changed (change_of change) self.old) }
+    {
+        match change {
+            Change::PutNode { fileid, node } => self.put_node(fileid, node),
+            Change::TakeNode(fileid) => {
+                self.take_node(fileid);
+                Ok(())
+            }
+            Change::PutName { place, entry } => self.put_name(place, entry),
+            Change::TakeName(place) => {
+                self.take_name(&place);
+                Ok(())
+            }
+            Change::PutText { fileid, text } => self.put_text(fileid, text),
+            Change::PutBytes(s) => self.put_bytes(s.fileid, s.offset, s.bytes.as_slice()),
+            Change::AddWrite(write) => self.add_write(write),
+        }
+    }
+
+    /// Makes the changes in their order.
+    pub(crate) fn apply(&mut self, changes: Changes) -> Result<(), NoMemory>
+        ensures { OnOk result (self.new ≡ volume.after_changes changes self.old) }
+    {
+        for change in changes.into_vec() {
+            self.change(change)?;
+        }
+        Ok(())
     }
 }
 

@@ -9,15 +9,15 @@ ghost use Rattle.sl_model.specs.Changing as changing;
 ghost use Rattle.sl_plain.specs.Steps.{ended};
 ghost use Rattle.sl_plain.specs.Found as found;
 
+use crate::after::same_time;
 use crate::checks::{
-    checked, checked_both, given, has_bad_time, is_dir, is_dot, is_dot_dot, is_dots, is_guarded,
-    is_lnk, is_reg, is_too_big, kind_number, refuse,
+    checked, has_bad_time, is_dir, is_dot, is_dot_dot, is_dots, is_lnk, is_reg, is_too_big, refuse,
 };
 use crate::names::Place;
 use crate::volume::Volume;
 use sl_defs::{Choice, Time};
 use sl_model::{Entry, Node};
-use sl_types::{CreateHow, Cred, Handle, Kind, Sattr, Status};
+use sl_types::{Cred, Handle, Sattr, Status};
 
 // Whether the caller may do what it asks for.
 fn is_granted(_cred: &Cred, _node: &Node) -> bool
@@ -29,9 +29,10 @@ fn is_granted(_cred: &Cred, _node: &Node) -> bool
 fn is_of(h: Handle, n: Node) -> bool
     ensures { result ≡ checks.is_of h n }
 {
-    n.fsid == h.volume && kind_number(n.kind) == kind_number(h.kind)
+    n.fsid == h.volume && n.kind.number() == h.kind.number()
 }
 
+/// The live object of a handle.
 #[tactic(auto, unfolding(sl_model::specs::Plan::run))]
 pub(crate) fn live(volume: &Volume, h: Handle) -> Result<Node, Status>
     ensures { run (sight volume.now) (checks.live h) ≡ result }
@@ -48,6 +49,7 @@ pub(crate) fn live(volume: &Volume, h: Handle) -> Result<Node, Status>
     }
 }
 
+/// An object with its unstable writes.
 #[tactic(auto, unfolding(sl_model::specs::Plan::run))]
 pub(crate) fn see(volume: &Volume, fileid: u64) -> Result<Node, Status>
     ensures { run (sight volume.now) (checks.see fileid) ≡ result }
@@ -58,8 +60,9 @@ pub(crate) fn see(volume: &Volume, fileid: u64) -> Result<Node, Status>
     }
 }
 
+/// What a name leads to that has to be there.
 #[tactic(auto, unfolding(sl_model::specs::Plan::run))]
-fn entry(volume: &Volume, dir: u64, place: &Place) -> Result<Entry, Status>
+pub(crate) fn entry(volume: &Volume, dir: u64, place: &Place) -> Result<Entry, Status>
     requires { place.now.dir ≡ dir }
     ensures { run (sight volume.now) (checks.entry dir place.now.name.items) ≡ result }
 {
@@ -69,6 +72,7 @@ fn entry(volume: &Volume, dir: u64, place: &Place) -> Result<Entry, Status>
     }
 }
 
+/// The object of a handle, if the caller may use it.
 #[tactic(auto, unfolding(crate::specs::Steps::refused))]
 pub(crate) fn object(volume: &Volume, cred: &Cred, h: Handle) -> Result<Node, Status>
     ensures { run (sight volume.now) (checks.object cred.now h) ≡ result }
@@ -78,6 +82,7 @@ pub(crate) fn object(volume: &Volume, cred: &Cred, h: Handle) -> Result<Node, St
     Ok(n)
 }
 
+/// The directory of a handle, if the caller may use it.
 #[tactic(auto, unfolding(crate::specs::Steps::refused))]
 pub(crate) fn directory(volume: &Volume, cred: &Cred, h: Handle) -> Result<Node, Status>
     ensures { run (sight volume.now) (checks.directory cred.now h) ≡ result }
@@ -88,7 +93,7 @@ pub(crate) fn directory(volume: &Volume, cred: &Cred, h: Handle) -> Result<Node,
     Ok(d)
 }
 
-// The object whose attributes are asked for.
+/// The object whose attributes are asked for.
 pub(crate) fn getattr(volume: &Volume, cred: &Cred, h: Handle) -> Result<Node, Status>
     ensures { run (sight volume.now) (looking.getattr cred.now h) ≡ ended (λ n. looking.answering (reply.Getattr (Ok (looking.attributes n)))) result }
 {
@@ -126,6 +131,7 @@ fn lookup_in(volume: &Volume, h: Handle, d: Node, place: &Place) -> Result<Looke
     }
 }
 
+/// What a LOOKUP finds.
 pub(crate) fn lookup(
     volume: &Volume,
     cred: &Cred,
@@ -140,6 +146,7 @@ pub(crate) fn lookup(
     lookup_in(volume, h, d, place)
 }
 
+/// The object whose rights are asked for.
 pub(crate) fn access(volume: &Volume, cred: &Cred, h: Handle, bits: u32) -> Result<Node, Status>
     ensures { run (sight volume.now) (looking.access cred.now h bits) ≡ ended (λ n. looking.answering (reply.Access (Ok (record { attributes = Some (looking.attributes n); bits = bit_and bits 63 })))) result }
 {
@@ -147,6 +154,7 @@ pub(crate) fn access(volume: &Volume, cred: &Cred, h: Handle, bits: u32) -> Resu
     see(volume, h.fileid)
 }
 
+/// The symbolic link that is read.
 pub(crate) fn readlink(volume: &Volume, cred: &Cred, h: Handle) -> Result<Node, Status>
     ensures { run (sight volume.now) (looking.readlink cred.now h) ≡ ended (λ n. looking.answering (reply.Readlink (Ok (record { attributes = Some (looking.attributes n); path = (sight volume.now).text h.fileid })))) result }
 {
@@ -155,6 +163,7 @@ pub(crate) fn readlink(volume: &Volume, cred: &Cred, h: Handle) -> Result<Node, 
     Ok(n)
 }
 
+/// The file that is read.
 pub(crate) fn read(
     volume: &Volume,
     cred: &Cred,
@@ -169,18 +178,13 @@ pub(crate) fn read(
     see(volume, h.fileid)
 }
 
+/// The file that is flushed.
 pub(crate) fn commit(volume: &Volume, cred: &Cred, h: Handle) -> Result<Node, Status>
     ensures { run (sight volume.now) (looking.commit cred.now h) ≡ ended (λ n. looking.committing n volume.now.verifier) result }
 {
     object(volume, cred, h)?;
     refuse(!is_reg(h.kind), Status::Inval)?;
     see(volume, h.fileid)
-}
-
-fn same_time(a: Time, b: Time) -> bool
-    ensures { result ≡ changing.same_time a b }
-{
-    a.sec == b.sec && a.nsec == b.nsec
 }
 
 #[tactic(auto, unfolding(sl_model::specs::Changing::guarded, sl_model::specs::Plan::run))]
@@ -200,6 +204,7 @@ fn guarded_by(volume: &Volume, f: u64, t: Time) -> Result<(), Status>
     refuse(!same_time(n.ctime, t), Status::NotSync)
 }
 
+/// The object whose attributes are set, as it was before.
 pub(crate) fn setattr(
     volume: &Volume,
     cred: &Cred,
@@ -218,8 +223,9 @@ pub(crate) fn setattr(
     see(volume, h.fileid)
 }
 
+/// That nothing is there yet under a name.
 #[tactic(auto, unfolding(sl_model::specs::Changing::absent))]
-fn absent(volume: &Volume, h: Handle, place: &Place) -> Result<(), Status>
+pub(crate) fn absent(volume: &Volume, h: Handle, place: &Place) -> Result<(), Status>
     requires { place.now.dir ≡ h.fileid }
     ensures { run (sight volume.now) (changing.absent h place.now.name.items) ≡ result }
 {
@@ -227,13 +233,15 @@ fn absent(volume: &Volume, h: Handle, place: &Place) -> Result<(), Status>
     refuse(find(volume, h.fileid, place).is_some(), Status::Exist)
 }
 
-fn find(volume: &Volume, dir: u64, place: &Place) -> Option<Entry>
+/// What a name leads to, if it is there.
+pub(crate) fn find(volume: &Volume, dir: u64, place: &Place) -> Option<Entry>
     requires { place.now.dir ≡ dir }
     ensures { result ≡ (sight volume.now).find dir place.now.name.items }
 {
     volume.entry_at(place)
 }
 
+/// The directory that a new directory is made in.
 pub(crate) fn mkdir(
     volume: &Volume,
     cred: &Cred,
@@ -255,6 +263,7 @@ pub(crate) fn mkdir(
     Ok(d)
 }
 
+/// The directory that loses a name, and the object of that name.
 pub(crate) fn remove(
     volume: &Volume,
     cred: &Cred,
@@ -274,6 +283,7 @@ pub(crate) fn remove(
     Ok((d, n))
 }
 
+/// The directory that loses a name, and the directory of that name.
 pub(crate) fn rmdir(
     volume: &Volume,
     cred: &Cred,
@@ -295,6 +305,7 @@ pub(crate) fn rmdir(
     Ok((d, n))
 }
 
+/// The directory that gets a name, and the object that it is to lead to.
 pub(crate) fn link(
     volume: &Volume,
     cred: &Cred,

@@ -1,4 +1,4 @@
-ghost use Rattle.std.specs.Prelude.{◌≡◌, ◌+◌, ◌^◌, ◌≤◌, length, OnOk, unwrap_or};
+ghost use Rattle.std.specs.Prelude.{◌≡◌, ◌+◌, ◌^◌, ◌≤◌, length, OnOk, IfOk, unwrap_or};
 ghost use Rattle.std.specs.FinMap as map;
 ghost use Rattle.std.specs.Prelude.{map as each};
 ghost use Rattle.sl_plain.specs.Unstables.{write_of};
@@ -88,5 +88,16 @@ impl Written {
     {
         self.entries
             .retain(|place, _| !(place.0 == file) || place.1 < size);
+    }
+
+    /// An equal map, in memory of its own.
+    pub fn copy(&self, alloc: Global) -> Result<Written, NoMemory>
+        ensures { IfOk result (λ copy. copy ≡ self.now) }
+    {
+        let mut copy = Written::new(alloc);
+        for (place, byte) in self.entries.iter() {
+            copy.put(place.0, place.1, *byte)?;
+        }
+        Ok(copy)
     }
 }

@@ -1,9 +1,8 @@
 -- The canonical text of a reply is one of its spellings.
-use Rattle.std.proofs.Common.{◌≡◌, ℕ, zero, suc, ◌+◌, ◌<◌, ◌≤◌, List, [], ◌∷◌, ◌++◌, length, Option, Some, None, Result, Ok, Err, Bool, true, false, refl, sym, ap, ◌∙◌, append_assoc, append-nil, arith}
+use Rattle.std.proofs.Common.{◌≡◌, ℕ, suc, ◌≤◌, List, [], ◌∷◌, ◌++◌, length, Option, Some, None, Result, Ok, Err, refl, sym, ap, ◌∙◌, append_assoc, append-nil, arith}
 use Rattle.std.specs.Prelude.{All, IfSome}
 use Rattle.std.proofs.lemmas.List.{length-append}
-use Rattle.sl_defs.specs.Items.{u32_text, u64_text, opaque_text}
-use Rattle.sl_defs.specs.Parts.{IsU32, IsU64}
+use Rattle.sl_defs.specs.Items.{u32_text, u64_text}
 use Rattle.sl_defs.proofs.ItemLaws.{same_pair}
 use Rattle.sl_types.specs.declared.entries.Entry.{Entry}
 use Rattle.sl_types.specs.declared.entries.EntryPlus.{EntryPlus}
@@ -27,10 +26,10 @@ use Rattle.sl_types.specs.declared.reply.Reply.TheVariants.{Null, Getattr, Setat
 use Rattle.sl_types.specs.Numbers.{status_number}
 use Rattle.sl_items.specs.Spelling.{time_text, FitsFh, FitsBytes}
 use Rattle.sl_items.proofs.DataTexts.{fh_spells, bytes_spells, time_spells, fattr_spells, optional_fattr_spells, optional_fh_spells}
-use Rattle.sl_replies.specs.Results.{IsWcc, IsList, IsAttrResult, IsWccResult, IsLookupOk, IsAccessOk, IsReadlinkOk, IsReadOk, IsWriteOk, IsMakeOk, IsEntry, IsReaddirOk, IsEntryPlus, IsReaddirplusOk, IsFsstatOk, IsFsinfoOk, IsPathconfOk, IsCommitOk, procedure_of, IsReply}
-use Rattle.sl_replies.specs.Reading.{reply_at, reply_of}
-use Rattle.sl_replies.specs.Texts.{wcc_text, list_text, attr_fault_text, wcc_fault_text, result_text, lookup_ok_text, access_ok_text, readlink_ok_text, read_ok_text, write_ok_text, make_ok_text, entry_text, readdir_ok_text, entry_plus_text, readdirplus_ok_text, fsstat_bytes_text, fsstat_files_text, fsstat_ok_text, fsinfo_read_text, fsinfo_write_text, fsinfo_limits_text, fsinfo_ok_text, pathconf_flags_text, pathconf_ok_text, commit_ok_text, reply_text, FitsEntry, FitsEntryPlus, FitsAttrResult, FitsWccResult, FitsReply}
-use Rattle.sl_replies.specs.Ranges.{AttrInRange, WccInRange, LookupInRange, AccessInRange, ReadlinkInRange, ReadInRange, WriteInRange, MakeInRange, EntryInRange, ReaddirInRange, EntryPlusInRange, ReaddirplusInRange, FsstatInRange, FsinfoInRange, PathconfInRange, CommitInRange, AttrResultInRange, WccResultInRange, ReplyInRange}
+use Rattle.sl_replies.specs.Results.{IsWcc, IsList, IsAttrResult, IsWccResult, IsLookupOk, IsAccessOk, IsReadlinkOk, IsReadOk, IsWriteOk, IsMakeOk, IsEntry, IsReaddirOk, IsEntryPlus, IsReaddirplusOk, IsFsstatOk, IsFsinfoOk, IsPathconfOk, IsCommitOk, procedure_of}
+use Rattle.sl_replies.specs.Reading.{reply_at}
+use Rattle.sl_replies.specs.Texts.{wcc_text, list_text, attr_fault_text, wcc_fault_text, result_text, lookup_ok_text, access_ok_text, readlink_ok_text, read_ok_text, write_ok_text, make_ok_text, entry_text, readdir_ok_text, entry_plus_text, readdirplus_ok_text, fsstat_bytes_text, fsstat_files_text, fsstat_ok_text, fsinfo_read_text, fsinfo_write_text, fsinfo_limits_text, fsinfo_ok_text, pathconf_flags_text, pathconf_ok_text, commit_ok_text, FitsEntry, FitsEntryPlus, FitsAttrResult, FitsWccResult}
+use Rattle.sl_replies.specs.Ranges.{WccInRange, LookupInRange, AccessInRange, ReadlinkInRange, ReadInRange, WriteInRange, MakeInRange, EntryInRange, ReaddirInRange, EntryPlusInRange, ReaddirplusInRange, FsstatInRange, FsinfoInRange, PathconfInRange, CommitInRange, AttrResultInRange, WccResultInRange}
 use Rattle.sl_replies.specs.Laws.{CanonicalTextsSpell, SpellingsAreRead, NoSpellingIsAFront}
 use Rattle.sl_replies.proofs.Replies.{reply_found, whole_found}
 

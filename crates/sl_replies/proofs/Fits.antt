@@ -1,5 +1,5 @@
 -- What was read can be written: its lengths are in range, and its failures aren't status OK.
-use Rattle.std.proofs.Common.{◌≡◌, ℕ, List, [], ◌∷◌, Option, Some, None, Result, Ok, Err, subst}
+use Rattle.std.proofs.Common.{ℕ, List, [], ◌∷◌, Option, Some, None, Result, Ok, Err}
 use Rattle.std.specs.Prelude.{All, IfSome, IfOk}
 use Rattle.std.proofs.lemmas.List.Elements.{All-nil, All-cons}
 use Rattle.sl_types.specs.declared.kind.Status.{Status}
@@ -8,8 +8,8 @@ use Rattle.sl_types.specs.declared.entries.EntryPlus.{EntryPlus}
 use Rattle.sl_types.specs.declared.fault.ArgsFault.{ArgsFault}
 use Rattle.sl_types.specs.declared.reply.Reply.{Reply}
 use Rattle.sl_types.specs.declared.reply.Reply.TheVariants.{Null, Getattr, Setattr, Lookup, Access, Readlink, Read, Write, Create, Mkdir, Symlink, Mknod, Remove, Rmdir, Rename, Link, Readdir, Readdirplus, Fsstat, Fsinfo, Pathconf, Commit}
-use Rattle.sl_items.specs.Spelling.{FitsFh, FitsBytes}
-use Rattle.sl_replies.specs.Results.{IsPostOpFh, IsList, IsEntry, IsEntryPlus, IsResult, IsReply, IsReplyTo, IsMakeOk}
+use Rattle.sl_items.specs.Spelling.{FitsFh}
+use Rattle.sl_replies.specs.Results.{IsPostOpFh, IsList, IsEntry, IsEntryPlus, IsResult, IsReply, IsReplyTo}
 use Rattle.sl_replies.specs.Texts.{FitsEntry, FitsEntryPlus, FitsResult, FitsReply}
 
 handle_fits : (o : Option (List ℕ)) (text : List ℕ) → IsPostOpFh o text → IfSome o FitsFh

@@ -3,3 +3,5 @@ pub mod Lists
 pub mod Replies
 pub mod ResultReaders
 pub mod Fits
+pub mod Passing
+pub mod Readable

@@ -1,8 +1,7 @@
 -- A list that is read or written element by element.
-use Rattle.std.proofs.Common.{◌≡◌, ℕ, zero, suc, ◌+◌, ◌-◌, ◌<◌, Bool, true, false, List, [], ◌∷◌, ◌++◌, length, take, drop, Option, Some, None, refl, sym, ap, ◌∙◌, append_assoc, append-nil, arith}
+use Rattle.std.proofs.Common.{◌≡◌, ℕ, suc, ◌+◌, ◌-◌, ◌<◌, true, false, List, [], ◌∷◌, ◌++◌, length, take, drop, Option, Some, None, refl, sym, ap, ◌∙◌, append_assoc, append-nil, arith}
 use Rattle.std.proofs.lemmas.List.{take_at, take-append-drop}
 use Rattle.sl_defs.specs.Items.{u32_text, ◌>>=◌}
-use Rattle.sl_defs.specs.Parts.{void_at, mapped, ◌⊗◌}
 use Rattle.sl_xdr.specs.Reading.{flag_at}
 use Rattle.sl_types.specs.declared.fault.ArgsFault.{ArgsFault}
 use Rattle.sl_types.specs.declared.fault.ArgsFault.TheVariants as fault

@@ -1,5 +1,5 @@
 -- Replies: what is read is spelled so, and what is spelled so is read.
-use Rattle.std.proofs.Common.{◌≡◌, ℕ, zero, suc, ◌+◌, ◌<◌, ◌≤◌, Bool, true, false, cond, eqb, List, [], ◌∷◌, ◌++◌, length, Option, Some, None, Result, Ok, Err, refl, sym, ap, subst, ◌∙◌, append-nil, arith}
+use Rattle.std.proofs.Common.{◌≡◌, ℕ, ◌≤◌, eqb, List, [], ◌∷◌, ◌++◌, length, Option, Some, None, Result, Ok, Err, refl, sym, ap, subst, ◌∙◌, append-nil, arith}
 use Rattle.std.specs.Prelude.{IfOk}
 use Rattle.std.proofs.lemmas.Bool.{eqb-true}
 use Rattle.std.proofs.lemmas.List.{length-append}
@@ -7,12 +7,9 @@ use Rattle.std.proofs.lemmas.Option.{cond_some}
 use Rattle.sl_defs.specs.Items.{AreBytes}
 use Rattle.sl_defs.specs.Parts.{◌⨾◌, ◌⊗◌, IsVoid, IsU64, void_at}
 use Rattle.sl_defs.proofs.ItemLaws.{bind_some}
-use Rattle.sl_defs.proofs.Readers.{IsReader, Took, same_some, made, takes_nothing, both, mapped_takes, mapped_found}
-use Rattle.sl_types.specs.declared.attributes.Fattr.{Fattr}
-use Rattle.sl_types.specs.declared.kind.Status.{Status}
+use Rattle.sl_defs.proofs.Readers.{IsReader, Took, made, takes_nothing, both, mapped_takes, mapped_found}
 use Rattle.sl_types.specs.declared.fault.ArgsFault.{ArgsFault}
 use Rattle.sl_types.specs.declared.fault.ArgsFault.TheVariants as fault
-use Rattle.sl_types.specs.declared.reply.Wcc.{Wcc}
 use Rattle.sl_types.specs.declared.reply.AttrFault.{AttrFault}
 use Rattle.sl_types.specs.declared.reply.ReaddirOk.{ReaddirOk}
 use Rattle.sl_types.specs.declared.reply.ReaddirplusOk.{ReaddirplusOk}
@@ -20,9 +17,10 @@ use Rattle.sl_types.specs.declared.reply.Reply.{Reply}
 use Rattle.sl_types.specs.declared.reply.Reply.TheVariants.{Null, Getattr, Setattr, Lookup, Access, Readlink, Read, Write, Create, Mkdir, Symlink, Mknod, Remove, Rmdir, Rename, Link, Readdir, Readdirplus, Fsstat, Fsinfo, Pathconf, Commit}
 use Rattle.sl_items.specs.Reading.{fattr_at, GivesArgs}
 use Rattle.sl_items.specs.Spelling.{IsFattr}
+use Rattle.sl_items.proofs.Choices.{chosen}
 use Rattle.sl_items.proofs.DataReaders.{fattr_reader}
-use Rattle.sl_replies.specs.Results.{IsStatus, IsFlag, IsPostOpAttr, IsWcc, IsList, IsResult, IsAttrResult, IsWccResult, IsLookupOk, IsAccessOk, IsReadlinkOk, IsReadOk, IsWriteOk, IsMakeOk, IsFsstatOk, IsFsinfoOk, IsPathconfOk, IsCommitOk, IsEntry, IsEntryPlus, IsReaddirOk, IsReaddirplusOk, procedure_of, IsReply, IsReplyTo}
-use Rattle.sl_replies.specs.Reading.{Reader, status_at, post_op_attr_at, wcc_at, result_at, attr_fault_at, wcc_fault_at, lookup_ok_at, access_ok_at, readlink_ok_at, read_ok_at, write_ok_at, make_ok_at, readdir_ok_at, readdirplus_ok_at, fsstat_ok_at, fsinfo_ok_at, pathconf_ok_at, commit_ok_at, changed_at, rename_at, link_at, reply_at, whole, reply_of}
+use Rattle.sl_replies.specs.Results.{IsStatus, IsFlag, IsPostOpAttr, IsWcc, IsResult, IsAttrResult, IsWccResult, IsLookupOk, IsAccessOk, IsReadlinkOk, IsReadOk, IsWriteOk, IsMakeOk, IsFsstatOk, IsFsinfoOk, IsPathconfOk, IsCommitOk, IsEntry, IsEntryPlus, IsReaddirOk, IsReaddirplusOk, procedure_of, IsReply, IsReplyTo}
+use Rattle.sl_replies.specs.Reading.{status_at, post_op_attr_at, wcc_at, result_at, attr_fault_at, wcc_fault_at, lookup_ok_at, access_ok_at, readlink_ok_at, read_ok_at, write_ok_at, make_ok_at, readdir_ok_at, readdirplus_ok_at, fsstat_ok_at, fsinfo_ok_at, pathconf_ok_at, commit_ok_at, rename_at, link_at, reply_at, whole, reply_of}
 use Rattle.sl_replies.proofs.ResultReaders.{status_reader, post_op_attr_reader, wcc_reader, results, no_fault_reader, attr_fault_reader, wcc_fault_reader, IsReaddirShort, IsReaddirplusShort, any_length, short_enough, lookup_ok_reader, access_ok_reader, readlink_ok_reader, read_ok_reader, write_ok_reader, make_ok_reader, readdir_ok_reader, readdirplus_ok_reader, fsstat_ok_reader, fsinfo_ok_reader, pathconf_ok_reader, commit_ok_reader}
 
 -- ---- the results of each procedure
@@ -120,13 +118,6 @@ reply_found (Pathconf r) most text rest fits is = mapped_found pathconf Pathconf
 reply_found (Commit r) most text rest fits is = mapped_found commit Commit r text rest is
 
 -- ---- what is read is spelled
-
--- one of two, by a test
-chosen : {A : Type 0} (n m : ℕ) (f g : List ℕ → Option A) (bytes : List ℕ) (z : Option A) (P : Type 0) → cond (eqb n m) f g bytes ≡ z → (n ≡ m → f bytes ≡ z → P) → (g bytes ≡ z → P) → P
-chosen n m f g bytes z P e k l = elim (eqb n m) as (λ b. eqb n m ≡ b → cond b f g bytes ≡ z → P) [
-  | true ↦ λ is h. k (eqb-true n m is) h
-  | false ↦ λ is h. l h
-] refl e
 
 pub reply_takes : (n most : ℕ) (bytes : List ℕ) (x : Reply × List ℕ) → AreBytes bytes → reply_at n most bytes ≡ Some x → Took (IsReplyTo n) bytes x
 unfolding reply_at rename_at link_at

@@ -1,39 +1,21 @@
 -- Each reader of a procedure's results reads exactly what the grammar spells.
-use Rattle.std.proofs.Common.{◌≡◌, ℕ, zero, suc, ◌+◌, ◌^◌, ◌<◌, ◌≤◌, Bool, true, false, cond, eqb, List, [], ◌∷◌, ◌++◌, length, Option, Some, None, Result, Ok, Err, refl, sym, ap, subst, ◌∙◌, append_assoc, append-nil, arith}
+use Rattle.std.proofs.Common.{◌≡◌, ℕ, zero, suc, ◌^◌, ◌<◌, ◌≤◌, Bool, true, false, cond, eqb, List, [], ◌∷◌, ◌++◌, length, Some, Result, Ok, Err, refl, sym, ap, ◌∙◌, append_assoc, append-nil, arith}
 use Rattle.std.proofs.lemmas.Bool.{eqb-true}
 use Rattle.std.proofs.lemmas.List.{length-append}
 use Rattle.std.specs.Prelude.{find, ◌==◌, if◌then◌else◌}
-use Rattle.sl_defs.specs.Items.{u32_text, AreBytes, ◌>>=◌, u32_at, u64_at}
-use Rattle.sl_defs.specs.Parts.{◌⨾◌, IsVoid, IsU32, IsU64, IsEnum, IsOptional, void_at, mapped, ◌⊗◌, enum_at, optional_at}
-use Rattle.sl_defs.specs.declared.setup.Time.{Time}
-use Rattle.sl_defs.proofs.ItemLaws.{Takes, Takes-then, length-u32_text}
-use Rattle.sl_defs.proofs.Readers.{IsReader, Took, AreNumbers, step, same_some, made, takes_nothing, u32_reader, u64_reader, both, mapped_takes, mapped_found, structure, enumeration, optional}
-use Rattle.sl_xdr.specs.Reading.{flag_at, number_of_flag}
-use Rattle.sl_types.specs.declared.attributes.Fattr.{Fattr}
-use Rattle.sl_types.specs.declared.entries.Entry.{Entry}
-use Rattle.sl_types.specs.declared.entries.EntryPlus.{EntryPlus}
+use Rattle.sl_defs.specs.Items.{u32_text, AreBytes}
+use Rattle.sl_defs.specs.Parts.{◌⨾◌, IsVoid, IsU64, IsOptional, void_at, mapped, ◌⊗◌, optional_at}
+use Rattle.sl_defs.proofs.ItemLaws.{Takes-then, length-u32_text}
+use Rattle.sl_defs.proofs.Readers.{IsReader, Took, step, same_some, made, takes_nothing, u32_reader, u64_reader, both, mapped_takes, mapped_found, structure, enumeration, optional}
 use Rattle.sl_types.specs.declared.kind.Status.{Status}
 use Rattle.sl_types.specs.declared.kind.Status.TheVariants as status
-use Rattle.sl_types.specs.declared.reply.Wcc.{Wcc}
 use Rattle.sl_types.specs.declared.reply.AttrFault.{AttrFault}
 use Rattle.sl_types.specs.declared.reply.WccFault.{WccFault}
-use Rattle.sl_types.specs.declared.reply.LookupOk.{LookupOk}
-use Rattle.sl_types.specs.declared.reply.AccessOk.{AccessOk}
-use Rattle.sl_types.specs.declared.reply.ReadlinkOk.{ReadlinkOk}
-use Rattle.sl_types.specs.declared.reply.ReadOk.{ReadOk}
-use Rattle.sl_types.specs.declared.reply.WriteOk.{WriteOk}
-use Rattle.sl_types.specs.declared.reply.MakeOk.{MakeOk}
 use Rattle.sl_types.specs.declared.reply.ReaddirOk.{ReaddirOk}
 use Rattle.sl_types.specs.declared.reply.ReaddirplusOk.{ReaddirplusOk}
-use Rattle.sl_types.specs.declared.reply.FsstatOk.{FsstatOk}
-use Rattle.sl_types.specs.declared.reply.FsinfoOk.{FsinfoOk}
-use Rattle.sl_types.specs.declared.reply.PathconfOk.{PathconfOk}
-use Rattle.sl_types.specs.declared.reply.CommitOk.{CommitOk}
 use Rattle.sl_types.specs.Numbers.{status_number, statuses, status_of, is_ok_status}
-use Rattle.sl_items.specs.Reading.{fh_at, bytes_at, time_at, fattr_at, stable_at}
-use Rattle.sl_items.specs.Spelling.{IsFh, IsBytes, IsTime, IsFattr, IsStable}
 use Rattle.sl_items.proofs.DataReaders.{fh_reader, bytes_reader, time_reader, fattr_reader, stable_reader, flag_reader}
-use Rattle.sl_replies.specs.Results.{IsStatus, IsFlag, IsPostOpAttr, IsPostOpFh, WccAttr, IsWccAttr, IsWcc, IsList, IsResult, IsAttrResult, IsWccResult, IsLookupOk, IsAccessOk, IsReadlinkOk, IsReadOk, IsWriteOk, IsMakeOk, IsEntry, IsReaddirOk, IsEntryPlus, IsReaddirplusOk, IsFsstatOk, IsFsinfoOk, IsPathconfOk, IsCommitOk}
+use Rattle.sl_replies.specs.Results.{IsStatus, IsFlag, IsPostOpAttr, IsPostOpFh, IsWccAttr, IsWcc, IsList, IsResult, IsLookupOk, IsAccessOk, IsReadlinkOk, IsReadOk, IsWriteOk, IsMakeOk, IsEntry, IsEntryPlus, IsFsstatOk, IsFsinfoOk, IsPathconfOk, IsCommitOk}
 use Rattle.sl_replies.specs.Reading.{Reader, status_at, post_op_attr_at, post_op_fh_at, wcc_attr_at, wcc_at, list_at, result_at, attr_fault_at, wcc_fault_at, lookup_ok_at, access_ok_at, readlink_ok_at, read_ok_at, write_ok_at, make_ok_at, entry_at, readdir_ok_at, entry_plus_at, readdirplus_ok_at, fsstat_ok_at, fsinfo_ok_at, pathconf_ok_at, commit_ok_at}
 
 -- ---- statuses

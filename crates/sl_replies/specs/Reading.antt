@@ -1,5 +1,5 @@
 -- Reading the results of each procedure from the front of some bytes.
-use Rattle.std.specs.Prelude.{◌≡◌, ℕ, zero, suc, List, [], ◌∷◌, length, Option, Some, None, Bool, true, false, Result, Ok, Err, ◌==◌, if◌then◌else◌}
+use Rattle.std.specs.Prelude.{ℕ, zero, suc, List, [], ◌∷◌, length, Option, Some, None, Result, Ok, Err, ◌==◌, if◌then◌else◌}
 use Rattle.sl_defs.specs.Items.{◌>>=◌, u32_at, u64_at}
 use Rattle.sl_defs.specs.Parts.{void_at, mapped, ◌⊗◌, enum_at, optional_at}
 use Rattle.sl_xdr.specs.Reading.{flag_at}

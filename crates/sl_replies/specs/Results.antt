@@ -1,7 +1,6 @@
 -- The results of each procedure (RFC 1813, section 3.3): which texts spell a reply's, and their canonical text.
-use Rattle.std.specs.Prelude.{◌≡◌, ℕ, ◌^◌, ◌<◌, ◌≤◌, List, [], ◌∷◌, ◌++◌, Option, IfSome, Bool, true, false, Result, Ok, Err, All}
-use Rattle.sl_defs.specs.Items.{u32_text, u64_text, opaque_text}
-use Rattle.sl_defs.specs.Parts.{◌⨾◌, IsVoid, IsU32, IsU64, IsEnum, IsOptional, optional_text}
+use Rattle.std.specs.Prelude.{◌≡◌, ℕ, List, [], ◌∷◌, Option, Bool, true, false, Result, Ok, Err}
+use Rattle.sl_defs.specs.Parts.{◌⨾◌, IsVoid, IsU32, IsU64, IsEnum, IsOptional}
 use Rattle.sl_defs.specs.declared.setup.Time.{Time}
 use Rattle.sl_xdr.specs.Reading.{number_of_flag}
 use Rattle.sl_types.specs.declared.attributes.Fattr.{Fattr}
@@ -27,7 +26,7 @@ use Rattle.sl_types.specs.declared.reply.CommitOk.{CommitOk}
 use Rattle.sl_types.specs.declared.reply.Reply.{Reply}
 use Rattle.sl_types.specs.declared.reply.Reply.TheVariants.{Null, Getattr, Setattr, Lookup, Access, Readlink, Read, Write, Create, Mkdir, Symlink, Mknod, Remove, Rmdir, Rename, Link, Readdir, Readdirplus, Fsstat, Fsinfo, Pathconf, Commit}
 use Rattle.sl_types.specs.Numbers.{status_number, is_ok_status}
-use Rattle.sl_items.specs.Spelling.{IsFh, IsBytes, IsTime, IsFattr, IsStable, stable_number, time_text, fattr_text, FitsFh, FitsBytes}
+use Rattle.sl_items.specs.Spelling.{IsFh, IsBytes, IsTime, IsFattr, IsStable}
 
 -- ---- parts of results (section 2.5)
 

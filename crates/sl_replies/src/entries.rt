@@ -1,5 +1,4 @@
 //! Lists of entries at the place of a cursor.
-ghost use Rattle.std.specs.Prelude.{◌≡◌};
 ghost use Rattle.sl_items.specs.Reading.{GivesArgs};
 ghost use Rattle.sl_replies.specs.Reading.{entry_at, entry_plus_at, list_at};
 

@@ -9,10 +9,12 @@ mod put_parts;
 mod put_results;
 mod reading;
 mod results;
+mod skipping;
 mod writing;
 
 pub use laws::{canonical_texts_spell, no_spelling_is_a_front, spellings_are_read};
 pub use reading::read_reply;
+pub use skipping::is_reply;
 pub use writing::write_reply;
 
 #[cfg(test)]

@@ -77,13 +77,13 @@ fn take_reply(
 {
     match procedure {
         0 => Ok(Reply::Null),
-        1 => Ok(Reply::Getattr(take_getattr(cursor)?)),
+        1 => Ok(Reply::Getattr(take_getattr(cursor).map_err(garbage)?)),
         2 => take_setattr(cursor).map_err(garbage),
         3 => Ok(Reply::Lookup(take_lookup(alloc, cursor)?)),
-        4 => Ok(Reply::Access(take_access(cursor)?)),
+        4 => Ok(Reply::Access(take_access(cursor).map_err(garbage)?)),
         5 => Ok(Reply::Readlink(take_readlink(alloc, cursor)?)),
         6 => Ok(Reply::Read(take_read(alloc, cursor)?)),
-        7 => Ok(Reply::Write(take_write(cursor)?)),
+        7 => Ok(Reply::Write(take_write(cursor).map_err(garbage)?)),
         8 => Ok(Reply::Create(take_made(alloc, cursor)?)),
         9 => Ok(Reply::Mkdir(take_made(alloc, cursor)?)),
         10 => Ok(Reply::Symlink(take_made(alloc, cursor)?)),
@@ -94,10 +94,10 @@ fn take_reply(
         15 => take_link(cursor).map_err(garbage),
         16 => Ok(Reply::Readdir(take_readdir(alloc, most, cursor)?)),
         17 => Ok(Reply::Readdirplus(take_readdirplus(alloc, most, cursor)?)),
-        18 => Ok(Reply::Fsstat(take_fsstat(cursor)?)),
-        19 => Ok(Reply::Fsinfo(take_fsinfo(cursor)?)),
-        20 => Ok(Reply::Pathconf(take_pathconf(cursor)?)),
-        21 => Ok(Reply::Commit(take_commit(cursor)?)),
+        18 => Ok(Reply::Fsstat(take_fsstat(cursor).map_err(garbage)?)),
+        19 => Ok(Reply::Fsinfo(take_fsinfo(cursor).map_err(garbage)?)),
+        20 => Ok(Reply::Pathconf(take_pathconf(cursor).map_err(garbage)?)),
+        21 => Ok(Reply::Commit(take_commit(cursor).map_err(garbage)?)),
         _ => Err(ArgsFault::Garbage),
     }
 }

@@ -1,7 +1,7 @@
 //! The results of each procedure at the place of a cursor.
-ghost use Rattle.std.specs.Prelude.{◌≡◌};
 ghost use Rattle.sl_items.specs.Reading.{GivesArgs, fattr_at};
 ghost use Rattle.sl_defs.specs.Parts.{void_at};
+ghost use Rattle.sl_defs.specs.Items.{Gives};
 ghost use Rattle.sl_replies.specs.Reading.{access_ok_at, attr_fault_at, commit_ok_at, fsinfo_ok_at, fsstat_ok_at, lookup_ok_at, make_ok_at, pathconf_ok_at, read_ok_at, readdir_ok_at, readdirplus_ok_at, readlink_ok_at, result_at, wcc_fault_at, write_ok_at};
 
 use crate::entries::{take_entries, take_entries_plus};
@@ -13,22 +13,20 @@ use sl_types::{
     AccessOk, ArgsFault, AttrFault, CommitOk, Fattr, FsinfoOk, FsstatOk, LookupOk, MakeOk,
     PathconfOk, ReadOk, ReaddirOk, ReaddirplusOk, ReadlinkOk, Status, WccFault, WriteOk,
 };
-use sl_xdr::Cursor;
+use sl_xdr::{Cursor, Short};
 use std::alloc::Global;
 
 /// The result of GETATTR.
 #[tactic(auto, unfolding(crate::specs::Reading::result_at))]
-pub fn take_getattr(cursor: &mut Cursor<'_>) -> Result<Result<Fattr, Status>, ArgsFault>
-    ensures exact { GivesArgs (λ r. (r, cursor.new.rest)) result (result_at fattr_at void_at cursor.old.rest) }
+pub fn take_getattr(cursor: &mut Cursor<'_>) -> Result<Result<Fattr, Status>, Short>
+    ensures exact { Gives (λ r. (r, cursor.new.rest)) result (result_at fattr_at void_at cursor.old.rest) }
 {
-    let status = take_status(cursor).map_err(garbage)?;
+    let status = take_status(cursor)?;
     if !status.is_ok() {
         return Ok(Err(status));
     }
-    match take_fattr(cursor) {
-        Ok(attributes) => Ok(Ok(attributes)),
-        Err(_) => Err(ArgsFault::Garbage),
-    }
+    let attributes = take_fattr(cursor)?;
+    Ok(Ok(attributes))
 }
 
 /// The result of LOOKUP.
@@ -56,16 +54,16 @@ pub fn take_lookup(
 
 /// The result of ACCESS.
 #[tactic(auto, unfolding(crate::specs::Reading::result_at, crate::specs::Reading::access_ok_at))]
-pub fn take_access(cursor: &mut Cursor<'_>) -> Result<Result<AccessOk, AttrFault>, ArgsFault>
-    ensures exact { GivesArgs (λ r. (r, cursor.new.rest)) result (result_at access_ok_at attr_fault_at cursor.old.rest) }
+pub fn take_access(cursor: &mut Cursor<'_>) -> Result<Result<AccessOk, AttrFault>, Short>
+    ensures exact { Gives (λ r. (r, cursor.new.rest)) result (result_at access_ok_at attr_fault_at cursor.old.rest) }
 {
-    let status = take_status(cursor).map_err(garbage)?;
+    let status = take_status(cursor)?;
     if !status.is_ok() {
-        let fault = take_attr_fault(status, cursor).map_err(garbage)?;
+        let fault = take_attr_fault(status, cursor)?;
         return Ok(Err(fault));
     }
-    let attributes = take_optional_fattr(cursor).map_err(garbage)?;
-    let bits = cursor.take_u32().map_err(garbage)?;
+    let attributes = take_optional_fattr(cursor)?;
+    let bits = cursor.take_u32()?;
     Ok(Ok(AccessOk { attributes, bits }))
 }
 
@@ -114,18 +112,18 @@ pub fn take_read(
 
 /// The result of WRITE.
 #[tactic(auto, unfolding(crate::specs::Reading::result_at, crate::specs::Reading::write_ok_at))]
-pub fn take_write(cursor: &mut Cursor<'_>) -> Result<Result<WriteOk, WccFault>, ArgsFault>
-    ensures exact { GivesArgs (λ r. (r, cursor.new.rest)) result (result_at write_ok_at wcc_fault_at cursor.old.rest) }
+pub fn take_write(cursor: &mut Cursor<'_>) -> Result<Result<WriteOk, WccFault>, Short>
+    ensures exact { Gives (λ r. (r, cursor.new.rest)) result (result_at write_ok_at wcc_fault_at cursor.old.rest) }
 {
-    let status = take_status(cursor).map_err(garbage)?;
+    let status = take_status(cursor)?;
     if !status.is_ok() {
-        let fault = take_wcc_fault(status, cursor).map_err(garbage)?;
+        let fault = take_wcc_fault(status, cursor)?;
         return Ok(Err(fault));
     }
-    let wcc = take_wcc(cursor).map_err(garbage)?;
-    let count = cursor.take_u32().map_err(garbage)?;
-    let committed = take_stable(cursor).map_err(garbage)?;
-    let verifier = cursor.take_u64().map_err(garbage)?;
+    let wcc = take_wcc(cursor)?;
+    let count = cursor.take_u32()?;
+    let committed = take_stable(cursor)?;
+    let verifier = cursor.take_u64()?;
     Ok(Ok(WriteOk {
         wcc,
         count,
@@ -211,22 +209,22 @@ pub fn take_readdirplus(
 
 /// The result of FSSTAT.
 #[tactic(auto, unfolding(crate::specs::Reading::result_at, crate::specs::Reading::fsstat_ok_at))]
-pub fn take_fsstat(cursor: &mut Cursor<'_>) -> Result<Result<FsstatOk, AttrFault>, ArgsFault>
-    ensures exact { GivesArgs (λ r. (r, cursor.new.rest)) result (result_at fsstat_ok_at attr_fault_at cursor.old.rest) }
+pub fn take_fsstat(cursor: &mut Cursor<'_>) -> Result<Result<FsstatOk, AttrFault>, Short>
+    ensures exact { Gives (λ r. (r, cursor.new.rest)) result (result_at fsstat_ok_at attr_fault_at cursor.old.rest) }
 {
-    let status = take_status(cursor).map_err(garbage)?;
+    let status = take_status(cursor)?;
     if !status.is_ok() {
-        let fault = take_attr_fault(status, cursor).map_err(garbage)?;
+        let fault = take_attr_fault(status, cursor)?;
         return Ok(Err(fault));
     }
-    let attributes = take_optional_fattr(cursor).map_err(garbage)?;
-    let total_bytes = cursor.take_u64().map_err(garbage)?;
-    let free_bytes = cursor.take_u64().map_err(garbage)?;
-    let available_bytes = cursor.take_u64().map_err(garbage)?;
-    let total_files = cursor.take_u64().map_err(garbage)?;
-    let free_files = cursor.take_u64().map_err(garbage)?;
-    let available_files = cursor.take_u64().map_err(garbage)?;
-    let invariant_seconds = cursor.take_u32().map_err(garbage)?;
+    let attributes = take_optional_fattr(cursor)?;
+    let total_bytes = cursor.take_u64()?;
+    let free_bytes = cursor.take_u64()?;
+    let available_bytes = cursor.take_u64()?;
+    let total_files = cursor.take_u64()?;
+    let free_files = cursor.take_u64()?;
+    let available_files = cursor.take_u64()?;
+    let invariant_seconds = cursor.take_u32()?;
     Ok(Ok(FsstatOk {
         attributes,
         total_bytes,
@@ -241,25 +239,25 @@ pub fn take_fsstat(cursor: &mut Cursor<'_>) -> Result<Result<FsstatOk, AttrFault
 
 /// The result of FSINFO.
 #[tactic(auto, unfolding(crate::specs::Reading::result_at, crate::specs::Reading::fsinfo_ok_at))]
-pub fn take_fsinfo(cursor: &mut Cursor<'_>) -> Result<Result<FsinfoOk, AttrFault>, ArgsFault>
-    ensures exact { GivesArgs (λ r. (r, cursor.new.rest)) result (result_at fsinfo_ok_at attr_fault_at cursor.old.rest) }
+pub fn take_fsinfo(cursor: &mut Cursor<'_>) -> Result<Result<FsinfoOk, AttrFault>, Short>
+    ensures exact { Gives (λ r. (r, cursor.new.rest)) result (result_at fsinfo_ok_at attr_fault_at cursor.old.rest) }
 {
-    let status = take_status(cursor).map_err(garbage)?;
+    let status = take_status(cursor)?;
     if !status.is_ok() {
-        let fault = take_attr_fault(status, cursor).map_err(garbage)?;
+        let fault = take_attr_fault(status, cursor)?;
         return Ok(Err(fault));
     }
-    let attributes = take_optional_fattr(cursor).map_err(garbage)?;
-    let read_max = cursor.take_u32().map_err(garbage)?;
-    let read_preferred = cursor.take_u32().map_err(garbage)?;
-    let read_multiple = cursor.take_u32().map_err(garbage)?;
-    let write_max = cursor.take_u32().map_err(garbage)?;
-    let write_preferred = cursor.take_u32().map_err(garbage)?;
-    let write_multiple = cursor.take_u32().map_err(garbage)?;
-    let readdir_preferred = cursor.take_u32().map_err(garbage)?;
-    let max_file_size = cursor.take_u64().map_err(garbage)?;
-    let time_delta = take_time(cursor).map_err(garbage)?;
-    let properties = cursor.take_u32().map_err(garbage)?;
+    let attributes = take_optional_fattr(cursor)?;
+    let read_max = cursor.take_u32()?;
+    let read_preferred = cursor.take_u32()?;
+    let read_multiple = cursor.take_u32()?;
+    let write_max = cursor.take_u32()?;
+    let write_preferred = cursor.take_u32()?;
+    let write_multiple = cursor.take_u32()?;
+    let readdir_preferred = cursor.take_u32()?;
+    let max_file_size = cursor.take_u64()?;
+    let time_delta = take_time(cursor)?;
+    let properties = cursor.take_u32()?;
     Ok(Ok(FsinfoOk {
         attributes,
         read_max,
@@ -277,21 +275,21 @@ pub fn take_fsinfo(cursor: &mut Cursor<'_>) -> Result<Result<FsinfoOk, AttrFault
 
 /// The result of PATHCONF.
 #[tactic(auto, unfolding(crate::specs::Reading::result_at, crate::specs::Reading::pathconf_ok_at))]
-pub fn take_pathconf(cursor: &mut Cursor<'_>) -> Result<Result<PathconfOk, AttrFault>, ArgsFault>
-    ensures exact { GivesArgs (λ r. (r, cursor.new.rest)) result (result_at pathconf_ok_at attr_fault_at cursor.old.rest) }
+pub fn take_pathconf(cursor: &mut Cursor<'_>) -> Result<Result<PathconfOk, AttrFault>, Short>
+    ensures exact { Gives (λ r. (r, cursor.new.rest)) result (result_at pathconf_ok_at attr_fault_at cursor.old.rest) }
 {
-    let status = take_status(cursor).map_err(garbage)?;
+    let status = take_status(cursor)?;
     if !status.is_ok() {
-        let fault = take_attr_fault(status, cursor).map_err(garbage)?;
+        let fault = take_attr_fault(status, cursor)?;
         return Ok(Err(fault));
     }
-    let attributes = take_optional_fattr(cursor).map_err(garbage)?;
-    let link_max = cursor.take_u32().map_err(garbage)?;
-    let name_max = cursor.take_u32().map_err(garbage)?;
-    let no_trunc = cursor.flag().map_err(garbage)?;
-    let chown_restricted = cursor.flag().map_err(garbage)?;
-    let case_insensitive = cursor.flag().map_err(garbage)?;
-    let case_preserving = cursor.flag().map_err(garbage)?;
+    let attributes = take_optional_fattr(cursor)?;
+    let link_max = cursor.take_u32()?;
+    let name_max = cursor.take_u32()?;
+    let no_trunc = cursor.flag()?;
+    let chown_restricted = cursor.flag()?;
+    let case_insensitive = cursor.flag()?;
+    let case_preserving = cursor.flag()?;
     Ok(Ok(PathconfOk {
         attributes,
         link_max,
@@ -305,15 +303,15 @@ pub fn take_pathconf(cursor: &mut Cursor<'_>) -> Result<Result<PathconfOk, AttrF
 
 /// The result of COMMIT.
 #[tactic(auto, unfolding(crate::specs::Reading::result_at, crate::specs::Reading::commit_ok_at))]
-pub fn take_commit(cursor: &mut Cursor<'_>) -> Result<Result<CommitOk, WccFault>, ArgsFault>
-    ensures exact { GivesArgs (λ r. (r, cursor.new.rest)) result (result_at commit_ok_at wcc_fault_at cursor.old.rest) }
+pub fn take_commit(cursor: &mut Cursor<'_>) -> Result<Result<CommitOk, WccFault>, Short>
+    ensures exact { Gives (λ r. (r, cursor.new.rest)) result (result_at commit_ok_at wcc_fault_at cursor.old.rest) }
 {
-    let status = take_status(cursor).map_err(garbage)?;
+    let status = take_status(cursor)?;
     if !status.is_ok() {
-        let fault = take_wcc_fault(status, cursor).map_err(garbage)?;
+        let fault = take_wcc_fault(status, cursor)?;
         return Ok(Err(fault));
     }
-    let wcc = take_wcc(cursor).map_err(garbage)?;
-    let verifier = cursor.take_u64().map_err(garbage)?;
+    let wcc = take_wcc(cursor)?;
+    let verifier = cursor.take_u64()?;
     Ok(Ok(CommitOk { wcc, verifier }))
 }

@@ -1,3 +1,5 @@
+mod skipping;
+
 use super::*;
 use sl_types::{ArgsFault, Fattr, Kind, Reply, Status, Time, Wcc};
 use sl_xdr::put_u32;
@@ -86,6 +88,83 @@ fn what_no_reply_is_is_garbage(rt: HostRuntime) -> Result<(), Fail> {
     for (procedure, numbers) in cases.iter() {
         let bytes = text(rt.alloc(), numbers)?;
         assert!(rt; !is_read(rt.alloc(), *procedure, &bytes), "{procedure}");
+    }
+    Ok(())
+}
+
+/// Results with padding that isn't zero, each before its canonical spelling.
+const PADDED: [(u32, &[u32], &[u32]); 6] = [
+    (3, &[0, 1, 0x6101_0203, 0, 0], &[0, 1, 0x6100_0000, 0, 0]),
+    (5, &[0, 0, 3, 0x6162_63ff], &[0, 0, 3, 0x6162_6300]),
+    (
+        6,
+        &[0, 0, 2, 1, 2, 0x6162_ffff],
+        &[0, 0, 2, 1, 2, 0x6162_0000],
+    ),
+    (
+        8,
+        &[0, 1, 2, 0x6162_0001, 0, 0, 0],
+        &[0, 1, 2, 0x6162_0000, 0, 0, 0],
+    ),
+    (
+        16,
+        &[0, 0, 0, 0, 1, 0, 1, 1, 0x2eff_ffff, 0, 1, 0, 1],
+        &[0, 0, 0, 0, 1, 0, 1, 1, 0x2e00_0000, 0, 1, 0, 1],
+    ),
+    (
+        17,
+        &[
+            0,
+            0,
+            0,
+            0,
+            1,
+            0,
+            1,
+            1,
+            0x2e01_0000,
+            0,
+            1,
+            0,
+            1,
+            1,
+            0x6880_8080,
+            0,
+            1,
+        ],
+        &[
+            0,
+            0,
+            0,
+            0,
+            1,
+            0,
+            1,
+            1,
+            0x2e00_0000,
+            0,
+            1,
+            0,
+            1,
+            1,
+            0x6800_0000,
+            0,
+            1,
+        ],
+    ),
+];
+
+#[test]
+fn padding_is_not_looked_at_and_written_as_zeros(rt: HostRuntime) -> Result<(), Fail> {
+    for (procedure, padded, canonical) in PADDED.iter() {
+        let bytes = text(rt.alloc(), padded)?;
+        let expected = text(rt.alloc(), canonical)?;
+        let mut out = Vec::new(rt.alloc());
+        match read_reply(rt.alloc(), *procedure, &bytes) {
+            Ok(reply) => write_reply(&reply, &mut out)?,
+            Err(_) => {}
+        }
+        assert_eq!(rt; out.as_slice(), expected.as_slice(), "{procedure}");
     }
     Ok(())
 }

@@ -1,5 +1,4 @@
 ghost use Rattle.std.specs.Prelude.{◌≡◌, ◌++◌, length, take, OnOk, OnErr};
-ghost use Rattle.sl_items.specs.Spelling.{fattr_text};
 ghost use Rattle.sl_replies.specs.Texts.{FitsReply, changed_text, post_op_attr_text, reply_text, status_text, wcc_text};
 
 use crate::put_parts::{put_status, put_wcc};

@@ -1,0 +1,5 @@
+pub mod CellReaders
+pub mod Elements
+pub mod OneSpelling
+pub mod OneText
+pub mod Shorts

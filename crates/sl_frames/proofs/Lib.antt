@@ -1,0 +1,3 @@
+pub mod FrameReaders
+pub mod Shorts
+pub mod WorkReaders

@@ -1,0 +1,4 @@
+pub mod Actors
+pub mod Frames
+pub mod Laws
+pub mod Works

@@ -1,0 +1,5 @@
+use Rattle.sl_journal.proofs.Once.{stands_once}
+use Rattle.sl_journal.proofs.laws.bytes_stand_for_one_list.Goals as goal
+
+pub returns : goal.returns
+returns c = stands_once

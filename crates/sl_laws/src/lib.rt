@@ -1,0 +1,9 @@
+//! Laws of the one server beyond those that stand beside its definition: what calls and flushes leave a tree.
+#![tactic(auto)]
+
+mod laws;
+
+pub use laws::{
+    always_a_tree, changes_commute, cuts_stay_zero, flush_keeps_tree, fresh_is_tree,
+    makings_alone_use_ids, parents_end_at_root, perform_keeps_tree, refused_makings_use_no_id,
+};

@@ -1,0 +1,2 @@
+pub mod RecordReaders
+pub mod Shorts
