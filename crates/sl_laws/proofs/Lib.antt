@@ -21,3 +21,5 @@ pub mod RenameKeeps
 pub mod Performing
 pub mod Fresh
 pub mod History
+pub mod Attributes
+pub mod Following

@@ -1,4 +1,6 @@
 //! Laws of one server. Each function says one and does nothing.
+ghost use Rattle.sl_laws.specs.Attributes.{AttributesSuffice};
+ghost use Rattle.sl_laws.specs.Following.{ViewsFollow, FlushKeepsViews};
 ghost use Rattle.sl_laws.specs.Laws.{FreshIsTree, FlushKeepsTree, ParentsEndAtRoot, RefusedUsesNoId, CutsStayZero, ChangesCommute, PerformKeepsTree, MakingsAloneUseIds, AlwaysATree};
 
 /// A new volume is a tree.
@@ -44,4 +46,21 @@ pub fn makings_alone_use_ids()
 /// Whatever calls, flushes and restarts happen to a new volume, it stays a tree.
 pub fn always_a_tree()
     ensures { AlwaysATree }
+{}
+
+/// What GETATTR, ACCESS, READ, WRITE and COMMIT answer from the attributes of an object's view, and set of them, is what
+/// they answer and change over the volume, whatever stands beside the attributes in what was gathered.
+pub fn attributes_suffice()
+    ensures { AttributesSuffice }
+{}
+
+/// The views after any changes follow from those before, whatever is unstable: so what was gathered of an object stays
+/// right if it is changed as the volume is.
+pub fn views_follow()
+    ensures { ViewsFollow }
+{}
+
+/// A flush of any file leaves every view as it is.
+pub fn flush_keeps_views()
+    ensures { FlushKeepsViews }
 {}

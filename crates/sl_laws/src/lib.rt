@@ -4,6 +4,7 @@
 mod laws;
 
 pub use laws::{
-    always_a_tree, changes_commute, cuts_stay_zero, flush_keeps_tree, fresh_is_tree,
-    makings_alone_use_ids, parents_end_at_root, perform_keeps_tree, refused_makings_use_no_id,
+    always_a_tree, attributes_suffice, changes_commute, cuts_stay_zero, flush_keeps_tree,
+    flush_keeps_views, fresh_is_tree, makings_alone_use_ids, parents_end_at_root,
+    perform_keeps_tree, refused_makings_use_no_id, views_follow,
 };

@@ -4,4 +4,5 @@ pub mod Zeros
 pub mod MapSteps
 pub mod Paths
 pub mod Alike
+pub mod Blind
 pub mod Cells

@@ -16,7 +16,7 @@ use Rattle.sl_model.specs.declared.node.Node.{Node}
 use Rattle.sl_model.specs.declared.node.Entry.{Entry}
 use Rattle.sl_model.specs.declared.node.Listed.{Listed}
 use Rattle.sl_model.specs.Plan.{Plan, Done, Stop, Look, See, Find, Climb, Names, Text, Bytes, Verifier, Want, Key, NodeKey, NameKey, Sight, run}
-use Rattle.sl_model.specs.Volume.{Volume, Unstable, Change, PutNode, TakeNode, PutName, TakeName, PutText, PutBytes, AddWrite, name_cmp, sight}
+use Rattle.sl_model.specs.Volume.{Volume, Unstable, Change, PutNode, TakeNode, PutName, TakeName, PutText, PutBytes, AddWrite, name_cmp, is_reg, seen, sight}
 use Rattle.sl_model.specs.Looking.{Outcome}
 use Rattle.sl_model.specs.Procedures.{plan, fault}
 
@@ -163,27 +163,59 @@ cells_after (x ∷ xs) c = cells_after xs (changed_cells x c)
 
 -- ---- when what was gathered is that of a volume
 
+abbrev pub parent_in : Option Node → Option ℕ
+parent_in None = None
+parent_in (Some n) = Some n.parent
+
+-- Nodes that differ at most in what unstable writes change: the size and two times, and those of a regular file alone.
+pub record IsLike (n m : Node) : Type 0 where
+  pub same : n ≡ record m { size = n.size; mtime = n.mtime; ctime = n.ctime }
+  pub other : is_reg m.kind ≡ false → n ≡ m
+
+abbrev pub AreLike : Option Node → Option Node → Type 0
+AreLike None None = Unit {0}
+AreLike (Some n) (Some m) = IsLike n m
+AreLike _ _ = ⊥
+
+-- What a plan is told on its way is the volume's. A cell that it sees is the view; one that it only looks at may differ
+-- from the node in what unstable writes change; and where it climbs, the cells have the right parents.
+abbrev pub Fits : {A : Type 0} → Gathered → Volume → Plan A → Type 0
+Fits g v (Done a) = Unit {0}
+Fits g v (Stop s) = Unit {0}
+Fits g v (Look f k) = ((o : Option Node) → node_in g.cells f ≡ Some o → AreLike o (map.get v.nodes f)) × Fits g v (k (known (node_in g.cells f)))
+Fits g v (See f k) = ((o : Option Node) → node_in g.cells f ≡ Some o → o ≡ seen v f) × Fits g v (k (known (node_in g.cells f)))
+Fits g v (Find d name k) = ((o : Option Entry) → name_in g.cells d name ≡ Some o → o ≡ map.get v.names (d, name)) × Fits g v (k (known (name_in g.cells d name)))
+Fits g v (Climb a d k) = ((f : ℕ) (o : Option Node) → node_in g.cells f ≡ Some o → parent_in o ≡ parent_in (map.get v.nodes f))
+    × Fits g v (k (ended (climbed (suc (length g.cells)) g.cells a d)))
+Fits g v (Names d c k) = (g.names d c ≡ (sight v).names d c) × Fits g v (k (g.names d c))
+Fits g v (Text f k) = (g.text f ≡ (sight v).text f) × Fits g v (k (g.text f))
+Fits g v (Bytes f at count k) = (g.bytes f at count ≡ (sight v).bytes f at count) × Fits g v (k (g.bytes f at count))
+Fits g v (Verifier k) = (g.verifier ≡ v.verifier) × Fits g v (k g.verifier)
+Fits g v (Want ks p) = Fits g v p
+
+-- All that was gathered is what the volume shows: each node's cell is its view.
 pub record Gathers (g : Gathered) (v : Volume) : Type 0 where
-  pub nodes : (f : ℕ) (o : Option Node) → node_in g.cells f ≡ Some o → o ≡ map.get v.nodes f
+  pub nodes : (f : ℕ) (o : Option Node) → node_in g.cells f ≡ Some o → o ≡ seen v f
   pub found : (d : ℕ) (name : List ℕ) (o : Option Entry) → name_in g.cells d name ≡ Some o → o ≡ map.get v.names (d, name)
   pub names : (d cookie : ℕ) → g.names d cookie ≡ (sight v).names d cookie
   pub text : (f : ℕ) → g.text f ≡ (sight v).text f
   pub bytes : (f at count : ℕ) → g.bytes f at count ≡ (sight v).bytes f at count
   pub verifier : g.verifier ≡ v.verifier
 
+-- A plan doesn't end otherwise where what it looks at differs in what unstable writes change.
+abbrev pub IsBlind : {A : Type 0} → Plan A → Type 0
+IsBlind (Done a) = Unit {0}
+IsBlind (Stop s) = Unit {0}
+IsBlind (Look f k) = ((n m : Node) (s : Sight) → IsLike n m → run s (k (Some n)) ≡ run s (k (Some m))) × ((o : Option Node) → IsBlind (k o))
+IsBlind (See f k) = (o : Option Node) → IsBlind (k o)
+IsBlind (Find d name k) = (o : Option Entry) → IsBlind (k o)
+IsBlind (Climb a d k) = (b : Bool) → IsBlind (k b)
+IsBlind (Names d c k) = (xs : List Listed) → IsBlind (k xs)
+IsBlind (Text f k) = (text : List ℕ) → IsBlind (k text)
+IsBlind (Bytes f at count k) = (bytes : List ℕ) → IsBlind (k bytes)
+IsBlind (Verifier k) = (w : ℕ) → IsBlind (k w)
+IsBlind (Want ks p) = IsBlind p
+
+-- whether a file has unstable writes
 abbrev pub is_unstable : ℕ → List Unstable → Bool
 is_unstable f ws = list_any (λ (w : Unstable). w.fileid == f) ws
-
--- no file that the plan sees has unstable writes
-abbrev pub IsClear : {A : Type 0} → Volume → Plan A → Type 0
-IsClear v (Done a) = Unit {0}
-IsClear v (Stop s) = Unit {0}
-IsClear v (Look f k) = IsClear v (k ((sight v).look f))
-IsClear v (See f k) = (is_unstable f v.unstable ≡ false) × IsClear v (k ((sight v).see f))
-IsClear v (Find d name k) = IsClear v (k ((sight v).find d name))
-IsClear v (Climb a d k) = IsClear v (k ((sight v).below a d))
-IsClear v (Names d c k) = IsClear v (k ((sight v).names d c))
-IsClear v (Text f k) = IsClear v (k ((sight v).text f))
-IsClear v (Bytes f at count k) = IsClear v (k ((sight v).bytes f at count))
-IsClear v (Verifier k) = IsClear v (k v.verifier)
-IsClear v (Want ks p) = IsClear v p

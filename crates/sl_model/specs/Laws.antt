@@ -1,5 +1,6 @@
 -- What holds of one server.
-use Rattle.std.specs.Prelude.{◌≡◌, ◌≢◌, ℕ, ◌≤◌, List, [], true, Result, Ok, Err}
+use Rattle.std.specs.Prelude.{◌≡◌, ◌≢◌, ℕ, ◌≤◌, List, [], true, false, Result, Ok, Err}
+use Rattle.std.specs.FinMap as map
 use Rattle.sl_defs.specs.declared.setup.Time.{Time}
 use Rattle.sl_defs.specs.declared.note.Choice.{Choice}
 use Rattle.sl_types.specs.declared.kind.Status.{Status}
@@ -11,12 +12,13 @@ use Rattle.sl_types.specs.declared.reply.Reply.TheVariants as reply
 use Rattle.sl_types.specs.declared.reply.AttrFault.{AttrFault}
 use Rattle.sl_types.specs.declared.reply.WccFault.{WccFault}
 use Rattle.sl_model.specs.declared.node.Node.{Node}
-use Rattle.sl_model.specs.Volume.{Volume, Change, PutNode, changed, after_changes, restart, byte_at}
+use Rattle.sl_model.specs.Plan.{Plan, run}
+use Rattle.sl_model.specs.Volume.{Volume, Change, PutNode, changed, after_changes, restart, byte_at, seen, sight}
 use Rattle.sl_model.specs.Looking.{Outcome}
 use Rattle.sl_model.specs.Tree.{Tree}
-use Rattle.sl_model.specs.Gathered.{Gathered, Gathers, IsClear, needs_of, effect_of, cells_of, cells_after}
+use Rattle.sl_model.specs.Gathered.{Gathered, Gathers, Fits, IsBlind, is_unstable, sight_in, wanted, needs_of, effect_from, effect_of, cells_of, cells_after}
 use Rattle.sl_model.specs.Procedures.{is_reading, plan}
-use Rattle.sl_model.specs.Perform.{perform}
+use Rattle.sl_model.specs.Perform.{ends, perform}
 
 abbrev pub attr_status : {A : Type 0} → Result A AttrFault → Status
 attr_status (Ok a) = status.Ok
@@ -71,14 +73,39 @@ CutsBytes = (v : Volume) (f : ℕ) (n : Node) (at : ℕ) → n.size ≤ at → b
 abbrev pub GrowsByZeros : Type 0
 GrowsByZeros = (v : Volume) (f : ℕ) (less more : Node) (at : ℕ) → less.size ≤ at → byte_at (changed (PutNode f more) (changed (PutNode f less) v)) f at ≡ 0
 
--- What a call answers from gathered cells, and leaves in them, is what it answers and leaves in the volume that they are of.
+-- What a plan answers from what was gathered is the answer over the volume, and its changes are those that the volume
+-- undergoes, in its cells too.
 pub record IsRight (v : Volume) (effect : Outcome) (after : Volume × Reply) : Type 0 where
   pub reply : effect.answer ≡ after.1
+  pub volume : after_changes effect.changes v ≡ after.0
   pub cells : cells_after effect.changes (cells_of v) ≡ cells_of after.0
 
+-- Any plan that is blind to what unstable writes change, whatever its failure answers.
+abbrev pub PlansSuffice : Type 0
+PlansSuffice = (v : Volume) (g : Gathered) (fault : Status → Reply) (p : Plan Outcome) → Tree v → IsBlind p → Fits g v p
+    → wanted g p ≡ [] → IsRight v (effect_from fault (run (sight_in g) p)) (ends v fault (run (sight v) p))
+
+-- Each call's plan is.
+abbrev pub CallsAreBlind : Type 0
+CallsAreBlind = (c : Call) (cred : Cred) (now : Time) (choice : Choice) → IsBlind (plan c cred now choice)
+
+-- So what a call is told need only be right where it asks.
 abbrev pub CellsSuffice : Type 0
-CellsSuffice = (v : Volume) (g : Gathered) (c : Call) (cred : Cred) (now : Time) (choice : Choice) → Tree v → Gathers g v → IsClear v (plan c cred now choice)
+CellsSuffice = (v : Volume) (g : Gathered) (c : Call) (cred : Cred) (now : Time) (choice : Choice) → Tree v → Fits g v (plan c cred now choice)
     → needs_of g c cred now choice ≡ [] → IsRight v (effect_of g c cred now choice) (perform v c cred now choice)
+
+-- What the volume shows is right wherever a plan asks.
+abbrev pub ViewsFit : Type 0
+ViewsFit = (v : Volume) (g : Gathered) (p : Plan Outcome) → Tree v → Gathers g v → Fits g v p
+
+-- So the views suffice, whatever is unstable.
+abbrev pub ViewsSuffice : Type 0
+ViewsSuffice = (v : Volume) (g : Gathered) (c : Call) (cred : Cred) (now : Time) (choice : Choice) → Tree v → Gathers g v
+    → needs_of g c cred now choice ≡ [] → IsRight v (effect_of g c cred now choice) (perform v c cred now choice)
+
+-- The view of what has no unstable writes is its node.
+abbrev pub CleanIsSeen : Type 0
+CleanIsSeen = (v : Volume) (f : ℕ) → Tree v → is_unstable f v.unstable ≡ false → seen v f ≡ map.get v.nodes f
 
 -- The cells after any changes are those of the volume after them.
 abbrev pub CellsFollow : Type 0

@@ -7,7 +7,7 @@ mod laws;
 mod node;
 
 pub use laws::{
-    cells_follow, cells_suffice, cuts_bytes, failure_keeps, grows_by_zeros, reading_keeps,
-    restart_keeps_tree,
+    calls_are_blind, cells_follow, cells_suffice, clean_is_seen, cuts_bytes, failure_keeps,
+    grows_by_zeros, plans_suffice, reading_keeps, restart_keeps_tree, views_fit, views_suffice,
 };
 pub use node::{Entry, Listed, Node};
