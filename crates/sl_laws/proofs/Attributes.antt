@@ -1,5 +1,5 @@
 -- What calls that ask for attributes alone answer, and set.
-use Rattle.std.proofs.Common.{◌≡◌, ℕ, ◌+◌, List, [], ◌∷◌, Option, Some, None, Bool, true, false, cond, Result, Ok, Err, length, refl, sym, ap, subst, ◌∙◌}
+use Rattle.std.proofs.Common.{◌≡◌, ℕ, suc, ◌+◌, List, [], ◌∷◌, Option, Some, None, Bool, true, false, cond, Result, Ok, Err, length, refl, sym, ap, subst, ◌∙◌}
 use Rattle.std.specs.Prelude.{◌-◌, ◌==◌, ◌&&◌, not, take, min, max, nat_le, bit_and}
 use Rattle.std.specs.FinMap as map
 use Rattle.sl_defs.specs.declared.setup.Time.{Time}
@@ -39,7 +39,7 @@ Near R (Err s) (Err t) = s ≡ t
 Near R _ _ = ⊥
 
 -- the attributes of a node, and what is kept beside them of another
-assembled : Fattr → Node → Node
+abbrev assembled : Fattr → Node → Node
 assembled a m = record {
   kind = a.kind; mode = a.mode; nlink = a.nlink; uid = a.uid; gid = a.gid; size = a.size; major = a.major; minor = a.minor; fsid = a.fsid; fileid = a.fileid;
   atime = a.atime; mtime = a.mtime; ctime = a.ctime; parent = m.parent; entries = m.entries; made = m.made; verifier = m.verifier;
@@ -49,15 +49,15 @@ same_rest : (m a : Node) (ws : List Unstable) → attributes a ≡ attributes (a
 same_rest m a ws e = ap (λ z. assembled z m) e ∙ ap (with_attributes m) (writes_same ws m) ∙ sym (writes_same ws m)
 
 module _ (v : Volume) (g : Gathered) (tree : Tree v) (all : GathersAttributes g v) where
-  told_at : Option (Option Node) → Option Node → Option Node
+  abbrev told_at : Option (Option Node) → Option Node → Option Node
   told_at None o = o
   told_at (Some x) o = x
 
-  told : ℕ → Option Node
+  abbrev told : ℕ → Option Node
   told f = told_at (node_in g.cells f) (seen v f)
 
   -- what was gathered, with the views in the place of what wasn't
-  sighted : Sight
+  abbrev sighted : Sight
   sighted = record (sight_in g) { look = told; see = told }
 
   same_self : (o : Option Node) → SameAttributes o o
@@ -92,20 +92,24 @@ module _ (v : Volume) (g : Gathered) (tree : Tree v) (all : GathersAttributes g 
   told_run (Bytes f at count k) none = told_run (k (g.bytes f at count)) none
   told_run (Verifier k) none = told_run (k g.verifier) none
 
-  near_then : {A B : Type 0} (R : A → A → Type 0) (S : B → B → Type 0) (p : Plan A) (f : A → Plan B) → Near R (run sighted p) (run (sight v) p)
-      → ((a b : A) → R a b → Near S (run sighted (f a)) (run (sight v) (f b))) → Near S (run sighted (p >>= f)) (run (sight v) (p >>= f))
-  near_then {A} {B} R S p f h k =
-      subst (λ x. Near S x (run (sight v) (p >>= f))) (sym (run_bind sighted p f))
-      (subst (λ x. Near S (and_then (run sighted p) (λ a. run sighted (f a))) x) (sym (run_bind (sight v) p f)) (at (run sighted p) (run (sight v) p) h))
+  near_both : {A B : Type 0} (R : A → A → Type 0) (S : B → B → Type 0) (p : Plan A) (f k : A → Plan B) → Near R (run sighted p) (run (sight v) p)
+      → ((a b : A) → R a b → Near S (run sighted (f a)) (run (sight v) (k b))) → Near S (run sighted (p >>= f)) (run (sight v) (p >>= k))
+  near_both {A} {B} R S p f k h next =
+      subst (λ x. Near S x (run (sight v) (p >>= k))) (sym (run_bind sighted p f))
+      (subst (λ x. Near S (and_then (run sighted p) (λ a. run sighted (f a))) x) (sym (run_bind (sight v) p k)) (at (run sighted p) (run (sight v) p) h))
     where
-      at : (x y : Result A Status) → Near R x y → Near S (and_then x (λ a. run sighted (f a))) (and_then y (λ a. run (sight v) (f a)))
-      at (Ok a) (Ok b) h = k a b h
+      at : (x y : Result A Status) → Near R x y → Near S (and_then x (λ a. run sighted (f a))) (and_then y (λ a. run (sight v) (k a)))
+      at (Ok a) (Ok b) h = next a b h
       at (Err s) (Err t) h = h
       at (Ok a) (Err t) h = absurd h
       at (Err s) (Ok b) h = absurd h
 
+  near_then : {A B : Type 0} (R : A → A → Type 0) (S : B → B → Type 0) (p : Plan A) (f : A → Plan B) → Near R (run sighted p) (run (sight v) p)
+      → ((a b : A) → R a b → Near S (run sighted (f a)) (run (sight v) (f b))) → Near S (run sighted (p >>= f)) (run (sight v) (p >>= f))
+  near_then R S p f h next = near_both R S p f f h next
+
   -- what is of no use
-  Any : {A : Type 0} → A → A → Type 0
+  abbrev Any : {A : Type 0} → A → A → Type 0
   Any a b = Unit {0}
 
   near_refuse : (b : Bool) (s : Status) → Near Any (run sighted (refuse b s)) (run (sight v) (refuse b s))
@@ -193,12 +197,12 @@ module _ (v : Volume) (g : Gathered) (tree : Tree v) (all : GathersAttributes g 
 
   -- ---- composing
 
-  near_same : {A B : Type 0} (S : B → B → Type 0) (p : Plan A) (f : A → Plan B) → Near (λ a b. a ≡ b) (run sighted p) (run (sight v) p)
-      → ((a : A) → Near S (run sighted (f a)) (run (sight v) (f a))) → Near S (run sighted (p >>= f)) (run (sight v) (p >>= f))
-  near_same S p f h k = near_then (λ a b. a ≡ b) S p f h (λ a b e. subst (λ z. Near S (run sighted (f a)) (run (sight v) (f z))) e (k a))
+  near_same : {A B : Type 0} (S : B → B → Type 0) (p : Plan A) (f k : A → Plan B) → Near (λ a b. a ≡ b) (run sighted p) (run (sight v) p)
+      → ((a : A) → Near S (run sighted (f a)) (run (sight v) (k a))) → Near S (run sighted (p >>= f)) (run (sight v) (p >>= k))
+  near_same S p f k h next = near_both (λ a b. a ≡ b) S p f k h (λ a b e. subst (λ z. Near S (run sighted (f a)) (run (sight v) (k z))) e (next a))
 
   of_handle : (bytes : List ℕ) (f : Handle → Plan Outcome) → ((h : Handle) → Near IsSame (run sighted (f h)) (run (sight v) (f h))) → Near IsSame (run sighted (handle bytes >>= f)) (run (sight v) (handle bytes >>= f))
-  of_handle bytes f k = near_same IsSame (handle bytes) f (near_handle bytes) k
+  of_handle bytes f k = near_same IsSame (handle bytes) f f (near_handle bytes) k
 
   of_object : (cred : Cred) (h : Handle) (p : Plan Outcome) → Near IsSame (run sighted p) (run (sight v) p) → Near IsSame (run sighted (object cred h >>= λ n. p)) (run (sight v) (object cred h >>= λ n. p))
   of_object cred h p k = near_then Any IsSame (object cred h) (λ n. p) (near_object cred h) (λ a b u. k)
@@ -220,7 +224,7 @@ module _ (v : Volume) (g : Gathered) (tree : Tree v) (all : GathersAttributes g 
 
   read_same : (cred : Cred) (h : Handle) (offset count : ℕ) → Near IsSame (run sighted (read cred h offset count)) (run (sight v) (read cred h offset count))
   read_same cred h offset count = of_object cred h _ (unless _ _ _ (by_attributes h.fileid found_by (λ a.
-      near_same IsSame (bytes_of h.fileid offset (readable_by a)) _ (near_bytes h.fileid offset (readable_by a)) (λ found. answers _))))
+      near_same IsSame (bytes_of h.fileid offset (readable_by a)) _ _ (near_bytes h.fileid offset (readable_by a)) (λ found. answers _))))
     where
       readable_by : Fattr → ℕ
       readable_by a = min count (min (up_to_unit offset) (a.size - offset))
@@ -231,17 +235,17 @@ module _ (v : Volume) (g : Gathered) (tree : Tree v) (all : GathersAttributes g 
 
   commit_same : (cred : Cred) (h : Handle) → Near IsSame (run sighted (commit cred h)) (run (sight v) (commit cred h))
   commit_same cred h = of_object cred h _ (unless _ _ _ (near_then (IsView h.fileid) IsSame (see h.fileid) _ (near_see h.fileid) (λ n m w.
-      near_same IsSame verifier _ near_verifier (λ x. near_done IsSame (committing n x) (committing m x) (record {
+      near_same IsSame verifier _ _ near_verifier (λ x. near_done IsSame (committing n x) (committing m x) (record {
         answer = ap (λ (a : Fattr). reply.Commit (Ok (record { wcc = record { after = Some a }; verifier = x }))) w.same;
         volume = put_same h.fileid (λ z. z) (λ k l. refl) n m w;
       })))))
 
   module _ (f offset : ℕ) (bytes : List ℕ) (now : Time) (x : ℕ) where
     -- the attributes after the write
-    written_by : Fattr → Fattr
+    abbrev written_by : Fattr → Fattr
     written_by a = record a { size = max a.size (offset + length bytes); used = max a.size (offset + length bytes); mtime = now; ctime = now }
 
-    wrote_by : Stable → Fattr → Reply
+    abbrev wrote_by : Stable → Fattr → Reply
     wrote_by committed a = reply.Write (Ok (record { wcc = record { after = Some (written_by a) }; count = length bytes; committed = committed; verifier = x }))
 
     writing_same : (b : Bool) (n m : Node) → IsView f n m → IsSame (cond b (unstable_write n offset bytes x now) (stable_write n offset bytes x now)) (cond b (unstable_write m offset bytes x now) (stable_write m offset bytes x now))
@@ -264,9 +268,9 @@ module _ (v : Volume) (g : Gathered) (tree : Tree v) (all : GathersAttributes g 
         x ← verifier
         unchanged (reply.Write (Ok (record { wcc = record { after = Some a }; count = 0; committed = asked; verifier = x })))
       either : (b : Bool) → Near IsSame (run sighted (cond b (write_none h asked) (write_at h offset count asked bytes now choice))) (run (sight v) (cond b (write_none h asked) (write_at h offset count asked bytes now choice)))
-      either true = by_attributes h.fileid none_by (λ a. near_same IsSame verifier _ near_verifier (λ x. answers _))
+      either true = by_attributes h.fileid none_by (λ a. near_same IsSame verifier _ _ near_verifier (λ x. answers _))
       either false = unless _ _ _ (near_then (IsView h.fileid) IsSame (see h.fileid) _ (near_see h.fileid) (λ n m w.
-          near_same IsSame verifier _ near_verifier (λ x. near_done IsSame (writing n offset (take (writable offset count) bytes) asked x now choice.kept) (writing m offset (take (writable offset count) bytes) asked x now choice.kept)
+          near_same IsSame verifier _ _ near_verifier (λ x. near_done IsSame (writing n offset (take (writable offset count) bytes) asked x now choice.kept) (writing m offset (take (writable offset count) bytes) asked x now choice.kept)
           (writing_same h.fileid offset (take (writable offset count) bytes) now x (is_unstable asked && not choice.kept) n m w))))
 
   calls_same : (c : Call) (cred : Cred) (now : Time) (choice : Choice) → asks_attributes c ≡ true → Near IsSame (run sighted (plan c cred now choice)) (run (sight v) (plan c cred now choice))

@@ -16,7 +16,7 @@ use Rattle.sl_laws.proofs.Views.{writes_keep}
 
 -- ---- writes of one file, and of others
 
-written_if : Unstable → Bool → Node → Node
+abbrev written_if : Unstable → Bool → Node → Node
 written_if w b n = cond b (written_to (w.offset + length w.bytes) w.moment n) n
 
 -- a write of another file

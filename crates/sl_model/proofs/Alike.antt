@@ -11,7 +11,7 @@ use Rattle.sl_model.specs.Volume.{Volume, Unstable, sight, seen, seen_as, after_
 use Rattle.sl_model.specs.Gathered.{Gathered, missing, or_next, node_in, name_in, Climbed, Ends, Wants, climb_on, climbed, ended, known, sight_in, wants_node, wants_name, wants_climb, wanted, parent_in, IsLike, AreLike, Fits, Gathers, IsBlind, is_unstable}
 use Rattle.sl_model.specs.Tree.{Path, Nodes, IsOfFile, Tree}
 
-or_false : (a b : Bool) → (a || b) ≡ false → (a ≡ false) × (b ≡ false)
+pub or_false : (a b : Bool) → (a || b) ≡ false → (a ≡ false) × (b ≡ false)
 or_false true b e = absurd cc
 or_false false b e = (refl, e)
 
