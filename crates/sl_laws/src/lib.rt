@@ -8,3 +8,6 @@ pub use laws::{
     flush_keeps_views, fresh_is_tree, makings_alone_use_ids, parents_end_at_root,
     perform_keeps_tree, refused_makings_use_no_id, views_follow,
 };
+
+#[cfg(test)]
+mod tests;

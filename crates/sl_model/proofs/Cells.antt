@@ -12,9 +12,9 @@ use Rattle.sl_model.specs.Volume.{Volume, Change, PutNode, TakeNode, PutName, Ta
 use Rattle.sl_model.specs.Looking.{Outcome}
 use Rattle.sl_model.specs.Procedures.{plan, fault}
 use Rattle.sl_model.specs.Perform.{ends, perform}
-use Rattle.sl_model.specs.Gathered.{cells_of, changed_cells, cells_after, effect_from, VolumeCells}
+use Rattle.sl_model.specs.Gathered.{wants_node, known, cells_of, changed_cells, cells_after, effect_from, VolumeCells}
 use Rattle.sl_model.specs.Tree.{Nodes}
-use Rattle.sl_model.specs.Laws.{IsRight, PlansSuffice, CellsSuffice, ViewsFit, ViewsSuffice, CleanIsSeen, CellsFollow, RestartKeepsTree}
+use Rattle.sl_model.specs.Laws.{IsRight, PlansSuffice, LookingTells, CellsSuffice, ViewsFit, ViewsSuffice, CleanIsSeen, CellsFollow, RestartKeepsTree}
 use Rattle.sl_model.proofs.MapSteps.{insert_over}
 use Rattle.sl_model.proofs.Paths.{path_bound}
 use Rattle.sl_model.proofs.Alike.{answers_alike, seen_right}
@@ -47,6 +47,16 @@ pub plans_suffice : PlansSuffice
 plans_suffice v g fault p t blind fits none =
     let e = answers_alike g v (λ f. let a = t.tree.paths f in (a.0, (let b = path_bound a.0 v.nodes f a.1 in omega arith), a.1)) p blind fits none in
     subst (λ r. IsRight v (effect_from fault r) (ends v fault (run (sight v) p))) (sym e) (right_from v fault (run (sight v) p))
+
+same_ok : (x y : Option Node) → ◌≡◌ {A = Result (Option Node) Status} (Ok x) (Ok y) → x ≡ y
+same_ok x y e = cc
+
+pub looking_tells : LookingTells
+unfolding run
+looking_tells v g f e ne = (
+  ap (λ x. wants_node f (λ o. []) x) e,
+  λ same. ne (same_ok (seen v f) (map.get v.nodes f) (ap (λ (x : Option (Option Node)). Ok (known x)) (sym e) ∙ same)),
+)
 
 pub cells_suffice : CellsSuffice
 unfolding perform

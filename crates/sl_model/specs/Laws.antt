@@ -1,5 +1,5 @@
 -- What holds of one server.
-use Rattle.std.specs.Prelude.{◌≡◌, ◌≢◌, ℕ, ◌≤◌, List, [], true, false, Result, Ok, Err}
+use Rattle.std.specs.Prelude.{◌≡◌, ◌≢◌, ℕ, ◌≤◌, List, [], Some, true, false, Result, Ok, Err}
 use Rattle.std.specs.FinMap as map
 use Rattle.sl_defs.specs.declared.setup.Time.{Time}
 use Rattle.sl_defs.specs.declared.note.Choice.{Choice}
@@ -12,11 +12,11 @@ use Rattle.sl_types.specs.declared.reply.Reply.TheVariants as reply
 use Rattle.sl_types.specs.declared.reply.AttrFault.{AttrFault}
 use Rattle.sl_types.specs.declared.reply.WccFault.{WccFault}
 use Rattle.sl_model.specs.declared.node.Node.{Node}
-use Rattle.sl_model.specs.Plan.{Plan, run}
+use Rattle.sl_model.specs.Plan.{Plan, Done, Look, run}
 use Rattle.sl_model.specs.Volume.{Volume, Change, PutNode, changed, after_changes, restart, byte_at, seen, sight}
 use Rattle.sl_model.specs.Looking.{Outcome}
 use Rattle.sl_model.specs.Tree.{Tree}
-use Rattle.sl_model.specs.Gathered.{Gathered, Gathers, Fits, IsBlind, is_unstable, sight_in, wanted, needs_of, effect_from, effect_of, cells_of, cells_after}
+use Rattle.sl_model.specs.Gathered.{Gathered, Gathers, Fits, IsBlind, is_unstable, node_in, sight_in, wanted, needs_of, effect_from, effect_of, cells_of, cells_after}
 use Rattle.sl_model.specs.Procedures.{is_reading, plan}
 use Rattle.sl_model.specs.Perform.{ends, perform}
 
@@ -88,6 +88,12 @@ PlansSuffice = (v : Volume) (g : Gathered) (fault : Status → Reply) (p : Plan 
 -- Each call's plan is.
 abbrev pub CallsAreBlind : Type 0
 CallsAreBlind = (c : Call) (cred : Cred) (now : Time) (choice : Choice) → IsBlind (plan c cred now choice)
+
+-- A plan that isn't blind ends otherwise over a view than over the volume: wherever the view isn't the node, that is one
+-- that answers what it looks at.
+abbrev pub LookingTells : Type 0
+LookingTells = (v : Volume) (g : Gathered) (f : ℕ) → node_in g.cells f ≡ Some (seen v f) → seen v f ≢ map.get v.nodes f
+    → (wanted g (Look f Done) ≡ []) × (run (sight_in g) (Look f Done) ≢ run (sight v) (Look f Done))
 
 -- So what a call is told need only be right where it asks.
 abbrev pub CellsSuffice : Type 0

@@ -1,5 +1,5 @@
 //! Laws of one server. Each function says one and does nothing.
-ghost use Rattle.sl_model.specs.Laws.{ReadingKeeps, FailureKeeps, CutsBytes, GrowsByZeros, PlansSuffice, CallsAreBlind, CellsSuffice, ViewsFit, ViewsSuffice, CleanIsSeen, CellsFollow, RestartKeepsTree};
+ghost use Rattle.sl_model.specs.Laws.{ReadingKeeps, FailureKeeps, CutsBytes, GrowsByZeros, PlansSuffice, CallsAreBlind, LookingTells, CellsSuffice, ViewsFit, ViewsSuffice, CleanIsSeen, CellsFollow, RestartKeepsTree};
 
 /// A call that only asks leaves the volume as it is.
 pub fn reading_keeps()
@@ -23,8 +23,7 @@ pub fn grows_by_zeros()
 
 /// What a plan answers from gathered cells, and changes, is what it answers and changes over the volume, if no cell that
 /// it wants is missing and what it is told is right where it asks: a view where it sees an object, and where it looks at
-/// one the node but for what unstable writes change. The plan has to be blind to that: one that looks at a file's size
-/// is told the stable one by the volume, and another by a cell that has the view.
+/// one the node but for what unstable writes change. The plan has to be blind to that.
 pub fn plans_suffice()
     ensures { PlansSuffice }
 {}
@@ -32,6 +31,12 @@ pub fn plans_suffice()
 /// Every call's plan is blind to what unstable writes change of a node that it only looks at.
 pub fn calls_are_blind()
     ensures { CallsAreBlind }
+{}
+
+/// A plan that isn't blind may be told something else by a cell than by the volume: wherever an unstable write shows,
+/// that is one that answers what it looks at.
+pub fn looking_tells()
+    ensures { LookingTells }
 {}
 
 /// What a call answers from gathered cells, and changes, is what it answers and changes over the volume, if no cell that

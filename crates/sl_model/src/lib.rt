@@ -8,6 +8,10 @@ mod node;
 
 pub use laws::{
     calls_are_blind, cells_follow, cells_suffice, clean_is_seen, cuts_bytes, failure_keeps,
-    grows_by_zeros, plans_suffice, reading_keeps, restart_keeps_tree, views_fit, views_suffice,
+    grows_by_zeros, looking_tells, plans_suffice, reading_keeps, restart_keeps_tree, views_fit,
+    views_suffice,
 };
 pub use node::{Entry, Listed, Node};
+
+#[cfg(test)]
+mod tests;
