@@ -1,11 +1,11 @@
 -- What calls that ask for attributes alone answer, and set.
 use Rattle.std.proofs.Common.{◌≡◌, ℕ, suc, ◌+◌, List, [], ◌∷◌, Option, Some, None, Bool, true, false, cond, Result, Ok, Err, length, refl, sym, ap, subst, ◌∙◌}
-use Rattle.std.specs.Prelude.{◌-◌, ◌==◌, ◌&&◌, not, take, min, max, nat_le, bit_and}
+use Rattle.std.specs.Prelude.{◌-◌, ◌==◌, ◌&&◌, not, take, min, max, nat_le, nat_lt, bit_and}
 use Rattle.std.specs.FinMap as map
 use Rattle.sl_defs.specs.declared.setup.Time.{Time}
 use Rattle.sl_defs.specs.declared.note.Choice.{Choice}
 use Rattle.sl_types.specs.declared.kind.Status.{Status}
-use Rattle.sl_types.specs.declared.kind.Status.TheVariants.{Stale}
+use Rattle.sl_types.specs.declared.kind.Status.TheVariants.{Stale, NotDir, NameTooLong}
 use Rattle.sl_types.specs.declared.attributes.Fattr.{Fattr}
 use Rattle.sl_types.specs.declared.call.Stable.{Stable}
 use Rattle.sl_types.specs.declared.call.Stable.TheVariants as stable
@@ -17,18 +17,20 @@ use Rattle.sl_types.specs.declared.call.Call.TheVariants as call
 use Rattle.sl_types.specs.declared.reply.Reply.{Reply}
 use Rattle.sl_types.specs.declared.reply.Reply.TheVariants as reply
 use Rattle.sl_model.specs.declared.node.Node.{Node}
-use Rattle.sl_model.specs.Plan.{Plan, Done, Stop, Look, See, Find, Climb, Names, Text, Bytes, Verifier, Want, Sight, run, and_then, ◌>>=◌}
-use Rattle.sl_model.specs.Volume.{Volume, Unstable, Change, PutNode, PutBytes, AddWrite, changed, after_changes, sight, seen, seen_as, after_writes, written_to}
-use Rattle.sl_model.specs.Checks.{refuse, handle_or, handle, same_kind, is_of, object_or, live, granted, object, node_or, see, bytes_of, verifier}
-use Rattle.sl_model.specs.Looking.{Outcome, unchanged, attributes, committing, read, commit, up_to_unit}
+use Rattle.sl_model.specs.declared.node.Entry.{Entry}
+use Rattle.sl_model.specs.Plan.{Plan, Done, Stop, Look, See, Find, Climb, Names, Text, Bytes, Verifier, Want, Key, Sight, run, and_then, ◌>>=◌}
+use Rattle.sl_model.specs.Volume.{Volume, Unstable, Change, PutNode, PutBytes, AddWrite, changed, after_changes, sight, seen, seen_as, after_writes, written_to, is_dir, is_reg}
+use Rattle.sl_model.specs.Checks.{refuse, handle_or, handle, checked, same_kind, is_of, object_or, live, in_directory, granted, object, directory, node_or, see, entry_or, entry, bytes_of, verifier, want, place, is_dot, is_dot_dot}
+use Rattle.sl_model.specs.Looking.{Outcome, unchanged, attributes, handle_to, directory_handle, lookup_in, lookup_name, committing, read, commit, up_to_unit}
+use Rattle.sl_model.specs.Looking as looking
 use Rattle.sl_model.specs.Changing.{write_in, writing, unstable_write, stable_write, is_unstable, writable, write_none, write_at}
 use Rattle.sl_model.specs.Procedures.{plan, fault}
 use Rattle.sl_model.specs.Perform.{ends, perform}
 use Rattle.sl_model.specs.Tree.{Tree}
 use Rattle.sl_model.specs.Gathered.{Gathered, node_in, sight_in, wanted, effect_from, missing, climbed, ended, name_in, known}
-use Rattle.sl_model.proofs.Alike.{writes_same, looked, found, climbed_on, only_next}
-use Rattle.sl_model.proofs.Blind.{run_bind}
-use Rattle.sl_laws.specs.Attributes.{asks_attributes, SameAttributes, GathersAttributes, with_attributes, keeping, setting_in, after_settings, IsRightSet, AttributesSuffice}
+use Rattle.sl_model.proofs.Alike.{writes_same, other_seen, looked, found, climbed_on, only_next}
+use Rattle.sl_model.proofs.Blind.{run_bind, dir_no_file, of_kind}
+use Rattle.sl_laws.specs.Attributes.{asks_attributes, HasAttributes, HaveAttributes, GathersAttributes, with_attributes, keeping, setting_in, after_settings, IsRightSet, AttributesSuffice}
 use Rattle.sl_laws.proofs.Steps.{same_node}
 use Rattle.sl_laws.proofs.Views.{writes_keep}
 
@@ -41,35 +43,60 @@ Near R _ _ = ⊥
 -- the attributes of a node, and what is kept beside them of another
 abbrev assembled : Fattr → Node → Node
 assembled a m = record {
-  kind = a.kind; mode = a.mode; nlink = a.nlink; uid = a.uid; gid = a.gid; size = a.size; major = a.major; minor = a.minor; fsid = a.fsid; fileid = a.fileid;
-  atime = a.atime; mtime = a.mtime; ctime = a.ctime; parent = m.parent; entries = m.entries; made = m.made; verifier = m.verifier;
+  kind = a.kind;
+  mode = a.mode;
+  nlink = a.nlink;
+  uid = a.uid;
+  gid = a.gid;
+  size = a.size;
+  major = a.major;
+  minor = a.minor;
+  fsid = a.fsid;
+  fileid = a.fileid;
+  atime = a.atime;
+  mtime = a.mtime;
+  ctime = a.ctime;
+  parent = m.parent;
+  entries = m.entries;
+  made = m.made;
+  verifier = m.verifier;
 }
 
 same_rest : (m a : Node) (ws : List Unstable) → attributes a ≡ attributes (after_writes ws m) → with_attributes m a ≡ after_writes ws m
 same_rest m a ws e = ap (λ z. assembled z m) e ∙ ap (with_attributes m) (writes_same ws m) ∙ sym (writes_same ws m)
 
 module _ (v : Volume) (g : Gathered) (tree : Tree v) (all : GathersAttributes g v) where
-  abbrev told_at : Option (Option Node) → Option Node → Option Node
+  abbrev told_at : {A : Type 0} → Option (Option A) → Option A → Option A
   told_at None o = o
   told_at (Some x) o = x
 
   abbrev told : ℕ → Option Node
   told f = told_at (node_in g.cells f) (seen v f)
 
-  -- what was gathered, with the views in the place of what wasn't
+  abbrev told_name : ℕ → List ℕ → Option Entry
+  told_name d name = told_at (name_in g.cells d name) (map.get v.names (d, name))
+
+  -- what was gathered, with what the volume shows in the place of what wasn't
   abbrev sighted : Sight
-  sighted = record (sight_in g) { look = told; see = told }
+  sighted = record (sight_in g) { look = told; see = told; find = told_name }
 
-  same_self : (o : Option Node) → SameAttributes o o
+  same_self : (o : Option Node) → HaveAttributes o o
   same_self None = tt
-  same_self (Some n) = refl
+  same_self (Some n) = record { same = refl; other = λ r. refl }
 
-  told_same : (f : ℕ) → SameAttributes (told f) (seen v f)
+  told_same : (f : ℕ) → HaveAttributes (told f) (seen v f)
   told_same f = at (node_in g.cells f) refl
     where
-      at : (x : Option (Option Node)) → node_in g.cells f ≡ x → SameAttributes (told_at x (seen v f)) (seen v f)
+      at : (x : Option (Option Node)) → node_in g.cells f ≡ x → HaveAttributes (told_at x (seen v f)) (seen v f)
       at None e = same_self (seen v f)
       at (Some o) e = all.nodes f o e
+
+  name_same : (d : ℕ) (name : List ℕ) → told_name d name ≡ map.get v.names (d, name)
+  name_same d name = at (name_in g.cells d name) refl
+    where
+      at : (x : Option (Option Entry)) → name_in g.cells d name ≡ x → told_at x (map.get v.names (d, name)) ≡ map.get v.names (d, name)
+      at None e = refl
+      at (Some o) e = all.found d name o e
 
   told_run : {A : Type 0} (p : Plan A) → wanted g p ≡ [] → run (sight_in g) p ≡ run sighted p
   unfolding run
@@ -82,7 +109,8 @@ module _ (v : Volume) (g : Gathered) (tree : Tree v) (all : GathersAttributes g 
       let h = looked f (λ o. wanted g (k o)) (node_in g.cells f) none in
       told_run (k (known (node_in g.cells f))) h.1 ∙ ap (λ x. run sighted (k (told_at x (seen v f)))) (sym h.0)
   told_run (Find d name k) none =
-      told_run (k (known (name_in g.cells d name))) (found d name (λ o. wanted g (k o)) (name_in g.cells d name) none).1
+      let h = found d name (λ o. wanted g (k o)) (name_in g.cells d name) none in
+      told_run (k (known (name_in g.cells d name))) h.1 ∙ ap (λ x. run sighted (k (told_at x (map.get v.names (d, name))))) (sym h.0)
   told_run (Want ks p) none = told_run p (only_next (missing g.cells ks) (wanted g p) none)
   told_run (Climb a d k) none =
       let c = climbed (suc (length g.cells)) g.cells a d in
@@ -125,6 +153,9 @@ module _ (v : Volume) (g : Gathered) (tree : Tree v) (all : GathersAttributes g 
       at None = refl
       at (Some h) = refl
 
+  of_view : (h : Handle) (n m : Node) → attributes n ≡ attributes (after_writes v.unstable m) → is_of h n ≡ is_of h m
+  of_view h n m e = ap (λ (a : Fattr). a.fsid == h.volume && same_kind a.kind h.kind) e ∙ ap (is_of h) (writes_same v.unstable m)
+
   -- the object of the handle is there in both, or in neither
   near_object : (cred : Cred) (h : Handle) → Near Any (run sighted (object cred h)) (run (sight v) (object cred h))
   unfolding run ◌>>=◌
@@ -134,20 +165,69 @@ module _ (v : Volume) (g : Gathered) (tree : Tree v) (all : GathersAttributes g 
       granting n = do
         _ ← granted cred n
         Done n
+
       one : (n m : Node) (x y : Bool) → x ≡ y → Near Any (run sighted (cond x (Done n) (Stop Stale) >>= granting)) (run (sight v) (cond y (Done m) (Stop Stale) >>= granting))
       one n m true true e = tt
       one n m false false e = refl
       one n m true false e = absurd cc
       one n m false true e = absurd cc
-      of_view : (n m : Node) → attributes n ≡ attributes (after_writes v.unstable m) → is_of h n ≡ is_of h m
-      of_view n m e =
-          let k = (writes_keep v.unstable m).alike in
-          ap (λ (a : Fattr). a.fsid == h.volume && same_kind a.kind h.kind) e ∙ ap (is_of h) (writes_same v.unstable m)
-      at : (o p : Option Node) → SameAttributes o (seen_as v.unstable p) → Near Any (run sighted (object_or h o >>= granting)) (run (sight v) (object_or h p >>= granting))
+
+      at : (o p : Option Node) → HaveAttributes o (seen_as v.unstable p) → Near Any (run sighted (object_or h o >>= granting)) (run (sight v) (object_or h p >>= granting))
       at None None s = refl
-      at (Some n) (Some m) s = one n m (is_of h n) (is_of h m) (of_view n m s)
+      at (Some n) (Some m) s = one n m (is_of h n) (is_of h m) (of_view h n m s.same)
       at None (Some m) s = absurd s
       at (Some n) None s = absurd s
+
+  -- a directory is the same in both, since none is a file
+  near_directory : (cred : Cred) (h : Handle) → Near (λ a b. a ≡ b) (run sighted (directory cred h)) (run (sight v) (directory cred h))
+  unfolding run ◌>>=◌
+  near_directory cred h = at (told h.fileid) (map.get v.nodes h.fileid) refl (told_same h.fileid)
+    where
+      entering : Node → Plan Node
+      entering n = do
+        _ ← in_directory h
+        _ ← granted cred n
+        Done n
+
+      stopped : (n m : Node) (b : Bool) → (b ≡ true → n ≡ m)
+          → Near (λ a b. a ≡ b) (run sighted (refuse (not b) NotDir >>= λ u. granted cred n >>= λ w. Done n)) (run (sight v) (refuse (not b) NotDir >>= λ u. granted cred m >>= λ w. Done m))
+      stopped n m true same = same refl
+      stopped n m false same = refl
+
+      one : (n m : Node) (x y : Bool) → x ≡ y → (y ≡ true → is_dir h.kind ≡ true → n ≡ m)
+          → Near (λ a b. a ≡ b) (run sighted (cond x (Done n) (Stop Stale) >>= entering)) (run (sight v) (cond y (Done m) (Stop Stale) >>= entering))
+      one n m true true e same = stopped n m (is_dir h.kind) (same refl)
+      one n m false false e same = refl
+      one n m true false e same = absurd cc
+      one n m false true e same = absurd cc
+
+      equal : (n m : Node) → map.get v.nodes h.fileid ≡ Some m → HasAttributes n (after_writes v.unstable m) → is_of h m ≡ true → is_dir h.kind ≡ true → n ≡ m
+      equal n m e s o d =
+          let no_file = dir_no_file h.kind m.kind (of_kind h m o) d in
+          let whole : after_writes v.unstable m ≡ m = other_seen v.nodes m (ap (map.get v.nodes) (tree.tree.own h.fileid m e).fileid ∙ e) no_file v.unstable tree.unstable in
+          s.other (ap (λ (z : Node). is_reg z.kind) whole ∙ no_file) ∙ whole
+
+      at : (o p : Option Node) → map.get v.nodes h.fileid ≡ p → HaveAttributes o (seen_as v.unstable p) → Near (λ a b. a ≡ b) (run sighted (object_or h o >>= entering)) (run (sight v) (object_or h p >>= entering))
+      at None None e s = refl
+      at (Some n) (Some m) e s = one n m (is_of h n) (is_of h m) (of_view h n m s.same) (equal n m e s)
+      at None (Some m) e s = absurd s
+      at (Some n) None e s = absurd s
+
+  near_checked : (name : List ℕ) → Near Any (run sighted (checked name)) (run (sight v) (checked name))
+  unfolding checked
+  near_checked name = near_then Any Any (refuse (nat_lt 255 (length name)) NameTooLong) _ (near_refuse _ _) (λ a b u. near_refuse _ _)
+
+  near_want : (ks : List Key) → Near Any (run sighted (want ks)) (run (sight v) (want ks))
+  unfolding run
+  near_want ks = tt
+
+  near_entry : (d : ℕ) (name : List ℕ) → Near (λ a b. a ≡ b) (run sighted (entry d name)) (run (sight v) (entry d name))
+  unfolding run
+  near_entry d name = subst (λ o. Near (λ a b. a ≡ b) (run sighted (entry_or (told_name d name))) (run (sight v) (entry_or o))) (name_same d name) (self (told_name d name))
+    where
+      self : (o : Option Entry) → Near (λ a b. a ≡ b) (run sighted (entry_or o)) (run (sight v) (entry_or o))
+      self None = refl
+      self (Some e) = refl
 
   -- what is seen has the attributes of the view
   record IsView (f : ℕ) (a b : Node) : Type 0 where
@@ -160,9 +240,9 @@ module _ (v : Volume) (g : Gathered) (tree : Tree v) (all : GathersAttributes g 
   unfolding run
   near_see f = at (told f) (map.get v.nodes f) refl (told_same f)
     where
-      at : (o p : Option Node) → map.get v.nodes f ≡ p → SameAttributes o (seen_as v.unstable p) → Near (IsView f) (run sighted (node_or o)) (run (sight v) (node_or (seen_as v.unstable p)))
+      at : (o p : Option Node) → map.get v.nodes f ≡ p → HaveAttributes o (seen_as v.unstable p) → Near (IsView f) (run sighted (node_or o)) (run (sight v) (node_or (seen_as v.unstable p)))
       at None None e s = refl
-      at (Some n) (Some m) e s = record { same = s; node = m; at = e; view = refl }
+      at (Some n) (Some m) e s = record { same = s.same; node = m; at = e; view = refl }
       at None (Some m) e s = absurd s
       at (Some n) None e s = absurd s
 
@@ -228,6 +308,7 @@ module _ (v : Volume) (g : Gathered) (tree : Tree v) (all : GathersAttributes g 
     where
       readable_by : Fattr → ℕ
       readable_by a = min count (min (up_to_unit offset) (a.size - offset))
+
       found_by : Fattr → Plan Outcome
       found_by a = do
         found ← bytes_of h.fileid offset (readable_by a)
@@ -267,11 +348,31 @@ module _ (v : Volume) (g : Gathered) (tree : Tree v) (all : GathersAttributes g 
       none_by a = do
         x ← verifier
         unchanged (reply.Write (Ok (record { wcc = record { after = Some a }; count = 0; committed = asked; verifier = x })))
+
       either : (b : Bool) → Near IsSame (run sighted (cond b (write_none h asked) (write_at h offset count asked bytes now choice))) (run (sight v) (cond b (write_none h asked) (write_at h offset count asked bytes now choice)))
       either true = by_attributes h.fileid none_by (λ a. near_same IsSame verifier _ _ near_verifier (λ x. answers _))
       either false = unless _ _ _ (near_then (IsView h.fileid) IsSame (see h.fileid) _ (near_see h.fileid) (λ n m w.
           near_same IsSame verifier _ _ near_verifier (λ x. near_done IsSame (writing n offset (take (writable offset count) bytes) asked x now choice.kept) (writing m offset (take (writable offset count) bytes) asked x now choice.kept)
           (writing_same h.fileid offset (take (writable offset count) bytes) now x (is_unstable asked && not choice.kept) n m w))))
+
+  lookup_same : (h : Handle) (d : Node) (name : List ℕ) → Near IsSame (run sighted (lookup_in h d name)) (run (sight v) (lookup_in h d name))
+  unfolding lookup_in
+  lookup_same h d name = dot (is_dot name)
+    where
+      found_by : Fattr → Plan Outcome
+      found_by a = unchanged (looking.found (record { volume = a.fsid; fileid = a.fileid; kind = a.kind }) (Some a))
+
+      named : Near IsSame (run sighted (lookup_name h name)) (run (sight v) (lookup_name h name))
+      named = near_same IsSame (entry h.fileid name) _ _ (near_entry h.fileid name) (λ e. by_attributes e.fileid found_by (λ a. answers _))
+
+      dots : (b : Bool) → Near IsSame (run sighted (cond b (unchanged (looking.found (directory_handle d.fsid d.parent) None)) (lookup_name h name))) (run (sight v) (cond b (unchanged (looking.found (directory_handle d.fsid d.parent) None)) (lookup_name h name)))
+      dots true = answers _
+      dots false = named
+
+      dot : (b : Bool) → Near IsSame (run sighted (cond b (unchanged (looking.found (handle_to d) (Some (attributes d)))) (cond (is_dot_dot name) (unchanged (looking.found (directory_handle d.fsid d.parent) None)) (lookup_name h name))))
+          (run (sight v) (cond b (unchanged (looking.found (handle_to d) (Some (attributes d)))) (cond (is_dot_dot name) (unchanged (looking.found (directory_handle d.fsid d.parent) None)) (lookup_name h name))))
+      dot true = answers _
+      dot false = dots (is_dot_dot name)
 
   calls_same : (c : Call) (cred : Cred) (now : Time) (choice : Choice) → asks_attributes c ≡ true → Near IsSame (run sighted (plan c cred now choice)) (run (sight v) (plan c cred now choice))
   calls_same (call.Getattr object) cred now choice q = of_handle object _ (λ h. of_object cred h _ (by_attributes h.fileid (λ a. unchanged (reply.Getattr (Ok a))) (λ a. answers _)))
@@ -282,7 +383,8 @@ module _ (v : Volume) (g : Gathered) (tree : Tree v) (all : GathersAttributes g 
   calls_same (call.Commit file offset count) cred now choice q = of_handle file _ (λ h. commit_same cred h)
   calls_same call.Null cred now choice q = absurd cc
   calls_same (call.Setattr object attributes guard) cred now choice q = absurd cc
-  calls_same (call.Lookup dir name) cred now choice q = absurd cc
+  calls_same (call.Lookup dir name) cred now choice q = of_handle dir _ (λ h. near_then Any IsSame (checked name) _ (near_checked name) (λ a b u. near_then Any IsSame (want (place h name)) _ (near_want _) (λ c d w.
+      near_same IsSame (directory cred h) _ _ (near_directory cred h) (λ d. lookup_same h d name))))
   calls_same (call.Readlink link) cred now choice q = absurd cc
   calls_same (call.Create dir name how) cred now choice q = absurd cc
   calls_same (call.Mkdir dir name attributes) cred now choice q = absurd cc

@@ -1,4 +1,4 @@
--- Calls that ask of one object its attributes alone: it is enough to know these, and no cell.
+-- Calls that ask of a file its attributes alone: it is enough to know these, and no cell.
 use Rattle.std.specs.Prelude.{◌≡◌, ℕ, List, [], ◌∷◌, Option, Some, None, Bool, true, false}
 use Rattle.std.specs.FinMap as map
 use Rattle.sl_defs.specs.declared.setup.Time.{Time}
@@ -8,29 +8,37 @@ use Rattle.sl_types.specs.declared.call.Call.{Call}
 use Rattle.sl_types.specs.declared.call.Call.TheVariants as call
 use Rattle.sl_types.specs.declared.reply.Reply.{Reply}
 use Rattle.sl_model.specs.declared.node.Node.{Node}
-use Rattle.sl_model.specs.Volume.{Volume, Change, PutNode, changed, seen, sight}
+use Rattle.sl_model.specs.declared.node.Entry.{Entry}
+use Rattle.sl_model.specs.Volume.{Volume, Change, PutNode, changed, seen, sight, is_reg}
 use Rattle.sl_model.specs.Looking.{Outcome, attributes}
 use Rattle.sl_model.specs.Perform.{perform}
 use Rattle.sl_model.specs.Tree.{Tree}
-use Rattle.sl_model.specs.Gathered.{Gathered, node_in, needs_of, effect_of}
+use Rattle.sl_model.specs.Gathered.{Gathered, node_in, name_in, needs_of, effect_of}
 
--- the calls that ask nothing else of an object (RFC 1813, sections 3.3.1, 3.3.4, 3.3.6, 3.3.7 and 3.3.21)
+-- the calls that ask nothing else of a file (RFC 1813, sections 3.3.1, 3.3.3, 3.3.4, 3.3.6, 3.3.7 and 3.3.21)
 abbrev pub asks_attributes : Call → Bool
 asks_attributes (call.Getattr object) = true
+asks_attributes (call.Lookup dir name) = true
 asks_attributes (call.Access object bits) = true
 asks_attributes (call.Read file offset count) = true
 asks_attributes (call.Write file offset count asked bytes) = true
 asks_attributes (call.Commit file offset count) = true
 asks_attributes _ = false
 
-abbrev pub SameAttributes : Option Node → Option Node → Type 0
-SameAttributes None None = Unit {0}
-SameAttributes (Some n) (Some m) = attributes n ≡ attributes m
-SameAttributes _ _ = ⊥
+-- A node that has the attributes of another. What else a server keeps of a file may be missing or wrong.
+pub record HasAttributes (n m : Node) : Type 0 where
+  pub same : attributes n ≡ attributes m
+  pub other : is_reg m.kind ≡ false → n ≡ m
 
--- What was gathered has the attributes of each view. What else a server keeps of an object may be missing or wrong.
+abbrev pub HaveAttributes : Option Node → Option Node → Type 0
+HaveAttributes None None = Unit {0}
+HaveAttributes (Some n) (Some m) = HasAttributes n m
+HaveAttributes _ _ = ⊥
+
+-- What was gathered has the attributes of each view, and is the volume's in all that these calls ask else.
 pub record GathersAttributes (g : Gathered) (v : Volume) : Type 0 where
-  pub nodes : (f : ℕ) (o : Option Node) → node_in g.cells f ≡ Some o → SameAttributes o (seen v f)
+  pub nodes : (f : ℕ) (o : Option Node) → node_in g.cells f ≡ Some o → HaveAttributes o (seen v f)
+  pub found : (d : ℕ) (name : List ℕ) (o : Option Entry) → name_in g.cells d name ≡ Some o → o ≡ map.get v.names (d, name)
   pub bytes : (f at count : ℕ) → g.bytes f at count ≡ (sight v).bytes f at count
   pub verifier : g.verifier ≡ v.verifier
 

@@ -48,8 +48,8 @@ pub fn always_a_tree()
     ensures { AlwaysATree }
 {}
 
-/// What GETATTR, ACCESS, READ, WRITE and COMMIT answer from the attributes of an object's view, and set of them, is what
-/// they answer and change over the volume, whatever stands beside the attributes in what was gathered.
+/// What GETATTR, LOOKUP, ACCESS, READ, WRITE and COMMIT answer where of files only the attributes of the views were
+/// gathered, and set of them, is what they answer and change over the volume.
 pub fn attributes_suffice()
     ensures { AttributesSuffice }
 {}

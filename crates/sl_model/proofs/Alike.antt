@@ -43,7 +43,7 @@ same_node : (m n : Node) → ◌≡◌ {A = Option Node} (Some m) (Some n) → m
 same_node m n e = cc
 
 -- no unstable write is of what is no file
-other_seen : (nodes : Nodes) (n : Node) → map.get nodes n.fileid ≡ Some n → is_reg n.kind ≡ false → (ws : List Unstable) → AllByRecursion (IsOfFile nodes) ws → after_writes ws n ≡ n
+pub other_seen : (nodes : Nodes) (n : Node) → map.get nodes n.fileid ≡ Some n → is_reg n.kind ≡ false → (ws : List Unstable) → AllByRecursion (IsOfFile nodes) ws → after_writes ws n ≡ n
 other_seen nodes n at kind [] h = refl
 other_seen nodes n at kind (w ∷ ws) h = one (w.fileid == n.fileid) refl ∙ other_seen nodes n at kind ws h.1
   where

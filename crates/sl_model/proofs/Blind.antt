@@ -146,7 +146,7 @@ unless_file : {R : Type 0} (b : Bool) (n m : Node) → IsLike n m → (b ≡ tru
 unless_file true n m l o F e = ap (F true) (l.other (o refl))
 unless_file false n m l o F e = e
 
-dir_no_file : (h m : Kind) → same_kind m h ≡ true → is_dir h ≡ true → is_reg m ≡ false
+pub dir_no_file : (h m : Kind) → same_kind m h ≡ true → is_dir h ≡ true → is_reg m ≡ false
 dir_no_file kind.Dir kind.Reg s e = absurd cc
 dir_no_file kind.Reg kind.Reg s e = absurd cc
 dir_no_file kind.Blk kind.Reg s e = absurd cc
@@ -176,7 +176,7 @@ lnk_no_file h kind.Lnk s e = refl
 lnk_no_file h kind.Sock s e = refl
 lnk_no_file h kind.Fifo s e = refl
 
-of_kind : (h : Handle) (m : Node) → is_of h m ≡ true → same_kind m.kind h.kind ≡ true
+pub of_kind : (h : Handle) (m : Node) → is_of h m ≡ true → same_kind m.kind h.kind ≡ true
 of_kind h m e = (and_parts (m.fsid == h.volume) (same_kind m.kind h.kind) e).1
 
 -- the two ends of what follows a live object
@@ -193,9 +193,11 @@ live_then h f same k = (
     at : (n m : Node) (s : Sight) → IsLike n m → (b : Bool) → is_of h m ≡ b → run s (cond b (Done n) (Stop Stale) >>= f) ≡ run s (cond b (Done m) (Stop Stale) >>= f)
     at n m s l true e = same n m s l (of_kind h m e)
     at n m s l false e = refl
+
     one : (b : Bool) (n : Node) → IsBlind (cond b (Done n) (Stop Stale) >>= f)
     one true n = k n
     one false n = tt
+
     rest : (o : Option Node) → IsBlind (object_or h o >>= f)
     rest None = tt
     rest (Some n) = one (is_of h n) n
@@ -212,13 +214,16 @@ object_then cred h f same k = (
     granting n = do
       _ ← granted cred n
       Done n
+
     at : (n m : Node) (s : Sight) → IsLike n m → (b : Bool) → is_of h m ≡ b
         → run s (cond b (Done n) (Stop Stale) >>= granting >>= f) ≡ run s (cond b (Done m) (Stop Stale) >>= granting >>= f)
     at n m s l true e = same n m s l (of_kind h m e)
     at n m s l false e = refl
+
     one : (b : Bool) (n : Node) → IsBlind (cond b (Done n) (Stop Stale) >>= granting >>= f)
     one true n = k n
     one false n = tt
+
     rest : (o : Option Node) → IsBlind (object_or h o >>= granting >>= f)
     rest None = tt
     rest (Some n) = one (is_of h n) n

@@ -45,8 +45,7 @@ fn laws_ask_for_nothing() {
 fn nodes_are_equal_where_each_field_is(rt: HostRuntime) {
     assert_eq!(rt; FILE, Node { ..FILE });
     assert_ne!(rt; FILE, Node { size: 6, ..FILE });
-    assert_ne!(
-        rt;
+    assert_ne!(rt;
         FILE,
         Node {
             verifier: None,
