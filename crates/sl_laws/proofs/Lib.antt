@@ -23,3 +23,5 @@ pub mod Fresh
 pub mod History
 pub mod Attributes
 pub mod Following
+pub mod Asking
+pub mod Showing

@@ -1,6 +1,7 @@
 //! Laws of one server. Each function says one and does nothing.
 ghost use Rattle.sl_laws.specs.Attributes.{AttributesSuffice};
 ghost use Rattle.sl_laws.specs.Following.{ViewsFollow, FlushKeepsViews};
+ghost use Rattle.sl_laws.specs.Showing.{BytesOnlyShow};
 ghost use Rattle.sl_laws.specs.Laws.{FreshIsTree, FlushKeepsTree, ParentsEndAtRoot, RefusedUsesNoId, CutsStayZero, ChangesCommute, PerformKeepsTree, MakingsAloneUseIds, AlwaysATree};
 
 /// A new volume is a tree.
@@ -63,4 +64,10 @@ pub fn views_follow()
 /// A flush of any file leaves every view as it is.
 pub fn flush_keeps_views()
     ensures { FlushKeepsViews }
+{}
+
+/// Whatever bytes and write verifier a call is told, it needs and changes the same, and answers the same but for these: so
+/// a call may be computed before the server of the bytes is asked.
+pub fn bytes_only_show()
+    ensures { BytesOnlyShow }
 {}

@@ -4,8 +4,8 @@
 mod laws;
 
 pub use laws::{
-    always_a_tree, attributes_suffice, changes_commute, cuts_stay_zero, flush_keeps_tree,
-    flush_keeps_views, fresh_is_tree, makings_alone_use_ids, parents_end_at_root,
+    always_a_tree, attributes_suffice, bytes_only_show, changes_commute, cuts_stay_zero,
+    flush_keeps_tree, flush_keeps_views, fresh_is_tree, makings_alone_use_ids, parents_end_at_root,
     perform_keeps_tree, refused_makings_use_no_id, views_follow,
 };
 

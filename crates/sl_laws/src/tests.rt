@@ -14,4 +14,5 @@ fn laws_ask_for_nothing() {
     attributes_suffice();
     views_follow();
     flush_keeps_views();
+    bytes_only_show();
 }
