@@ -25,3 +25,4 @@ pub mod Attributes
 pub mod Following
 pub mod Asking
 pub mod Showing
+pub mod Unseen

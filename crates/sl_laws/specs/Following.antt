@@ -1,8 +1,14 @@
 -- What changes leave of the views, and that a flush leaves them as they are.
 use Rattle.std.specs.Prelude.{◌≡◌, ℕ, ◌+◌, ◌==◌, List, [], ◌∷◌, Option, Some, None, if◌then◌else◌, length}
 use Rattle.std.specs.List.{AllByRecursion}
+use Rattle.sl_defs.specs.declared.setup.Time.{Time}
+use Rattle.sl_defs.specs.declared.note.Choice.{Choice}
+use Rattle.sl_types.specs.declared.cred.Cred.{Cred}
+use Rattle.sl_types.specs.declared.call.Call.{Call}
 use Rattle.sl_model.specs.declared.node.Node.{Node}
-use Rattle.sl_model.specs.Volume.{Volume, Unstable, Change, PutNode, TakeNode, AddWrite, after_changes, written_to, seen, flush}
+use Rattle.sl_model.specs.Plan.{run}
+use Rattle.sl_model.specs.Volume.{Volume, Unstable, Change, PutNode, TakeNode, AddWrite, after_changes, written_to, seen, byte_at, flush, sight}
+use Rattle.sl_model.specs.Procedures.{plan}
 use Rattle.sl_model.specs.Tree.{Tree}
 
 abbrev pub written_view : Unstable → Option Node → Option Node
@@ -32,3 +38,12 @@ ViewsFollow = (v : Volume) (cs : List Change) (f : ℕ) → Tree v → AllByRecu
 -- No flush changes a view.
 abbrev pub FlushKeepsViews : Type 0
 FlushKeepsViews = (v : Volume) (f g : ℕ) → Tree v → seen (flush f v) g ≡ seen v g
+
+-- Nor a byte of one.
+abbrev pub FlushKeepsBytes : Type 0
+FlushKeepsBytes = (v : Volume) (f g at : ℕ) → byte_at (flush f v) g at ≡ byte_at v g at
+
+-- No call tells whether a file was flushed: it ends the same, with the same answer and the same changes.
+abbrev pub FlushesAreUnseen : Type 0
+FlushesAreUnseen = (v : Volume) (f : ℕ) (c : Call) (cred : Cred) (now : Time) (choice : Choice) → Tree v
+    → run (sight (flush f v)) (plan c cred now choice) ≡ run (sight v) (plan c cred now choice)

@@ -1,6 +1,6 @@
 //! Laws of one server. Each function says one and does nothing.
 ghost use Rattle.sl_laws.specs.Attributes.{AttributesSuffice};
-ghost use Rattle.sl_laws.specs.Following.{ViewsFollow, FlushKeepsViews};
+ghost use Rattle.sl_laws.specs.Following.{ViewsFollow, FlushKeepsViews, FlushKeepsBytes, FlushesAreUnseen};
 ghost use Rattle.sl_laws.specs.Showing.{BytesOnlyShow};
 ghost use Rattle.sl_laws.specs.Laws.{FreshIsTree, FlushKeepsTree, ParentsEndAtRoot, RefusedUsesNoId, CutsStayZero, ChangesCommute, PerformKeepsTree, MakingsAloneUseIds, AlwaysATree};
 
@@ -70,4 +70,14 @@ pub fn flush_keeps_views()
 /// a call may be computed before the server of the bytes is asked.
 pub fn bytes_only_show()
     ensures { BytesOnlyShow }
+{}
+
+/// A flush of any file leaves the bytes of every view as they are.
+pub fn flush_keeps_bytes()
+    ensures { FlushKeepsBytes }
+{}
+
+/// No call tells whether a file was flushed: it answers the same, and makes the same changes.
+pub fn flushes_are_unseen()
+    ensures { FlushesAreUnseen }
 {}

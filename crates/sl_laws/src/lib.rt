@@ -5,8 +5,9 @@ mod laws;
 
 pub use laws::{
     always_a_tree, attributes_suffice, bytes_only_show, changes_commute, cuts_stay_zero,
-    flush_keeps_tree, flush_keeps_views, fresh_is_tree, makings_alone_use_ids, parents_end_at_root,
-    perform_keeps_tree, refused_makings_use_no_id, views_follow,
+    flush_keeps_bytes, flush_keeps_tree, flush_keeps_views, flushes_are_unseen, fresh_is_tree,
+    makings_alone_use_ids, parents_end_at_root, perform_keeps_tree, refused_makings_use_no_id,
+    views_follow,
 };
 
 #[cfg(test)]

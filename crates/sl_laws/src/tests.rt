@@ -14,5 +14,7 @@ fn laws_ask_for_nothing() {
     attributes_suffice();
     views_follow();
     flush_keeps_views();
+    flush_keeps_bytes();
+    flushes_are_unseen();
     bytes_only_show();
 }

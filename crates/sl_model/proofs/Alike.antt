@@ -39,7 +39,7 @@ pub writes_same : (ws : List Unstable) (n : Node) → Same (after_writes ws n) n
 writes_same [] n = refl
 writes_same (w ∷ ws) n = one_write w n (after_writes ws) (writes_same ws) (w.fileid == n.fileid)
 
-same_node : (m n : Node) → ◌≡◌ {A = Option Node} (Some m) (Some n) → m ≡ n
+pub same_node : (m n : Node) → ◌≡◌ {A = Option Node} (Some m) (Some n) → m ≡ n
 same_node m n e = cc
 
 -- no unstable write is of what is no file
@@ -54,7 +54,7 @@ other_seen nodes n at kind (w ∷ ws) h = one (w.fileid == n.fileid) refl ∙ ot
         let r : is_reg n.kind ≡ true = subst (λ (z : Node). is_reg z.kind ≡ true) s h.0.2 in
         absurd cc
 
-seen_like : (v : Volume) → Tree v → (f : ℕ) → AreLike (seen v f) (map.get v.nodes f)
+pub seen_like : (v : Volume) → Tree v → (f : ℕ) → AreLike (seen v f) (map.get v.nodes f)
 seen_like v t f = at (map.get v.nodes f) refl
   where
     at : (o : Option Node) → map.get v.nodes f ≡ o → AreLike (seen_as v.unstable o) o
@@ -64,7 +64,7 @@ seen_like v t f = at (map.get v.nodes f) refl
       other = λ r. other_seen v.nodes n (ap (map.get v.nodes) (t.tree.own f n e).fileid ∙ e) r v.unstable t.unstable;
     }
 
-like_parent : (o p : Option Node) → AreLike o p → parent_in o ≡ parent_in p
+pub like_parent : (o p : Option Node) → AreLike o p → parent_in o ≡ parent_in p
 like_parent None None l = refl
 like_parent (Some n) (Some m) l = ap (λ (z : Node). Some z.parent) l.same
 like_parent None (Some m) l = absurd l
@@ -123,6 +123,13 @@ climb_step next up d b (Some None) (Some n) h k e = let f = h None refl in absur
 climb_step next up d b (Some (Some m)) None h k e = let f = h (Some m) refl in absurd cc
 climb_step next up d b (Some (Some m)) (Some n) h k e = k n refl (subst (λ z. next z ≡ Ends b) (same_parent m.parent n.parent (h (Some m) refl)) e)
 
+-- a plan that goes on blindly ends the same with what is like
+pub alike_end : {A : Type 0} (k : Option Node → Plan A) (s : Sight) → ((n m : Node) (s : Sight) → IsLike n m → run s (k (Some n)) ≡ run s (k (Some m))) → (o p : Option Node) → AreLike o p → run s (k o) ≡ run s (k p)
+alike_end k s h None None l = refl
+alike_end k s h (Some n) (Some m) l = h n m s l
+alike_end k s h None (Some m) l = absurd l
+alike_end k s h (Some n) None l = absurd l
+
 module _ (all : Gathered) (v : Volume) where
   module _ (parents : (f : ℕ) (o : Option Node) → node_in all.cells f ≡ Some o → parent_in o ≡ parent_in (map.get v.nodes f)) where
     climb_right : (a k d fuel F : ℕ) (b : Bool) → Path v.nodes d k → k < F → climbed fuel all.cells a d ≡ Ends b → b ≡ below_within F v.nodes a d
@@ -135,12 +142,6 @@ module _ (all : Gathered) (v : Volume) where
     climb_right a (suc k) d (suc fuel) (suc F) b p l e =
         level (d == a) (d == 1) _ _ b (λ _ t. climb_step (climbed fuel all.cells a) (below_within F v.nodes a) d b (node_in all.cells d) (map.get v.nodes d) (parents d)
         (λ n q s. climb_right a k n.parent fuel F b (subst (λ (m : Node). Path v.nodes m.parent k) (same_node p.1 n (sym p.2 ∙ q)) p.3) (omega arith) s) t) e
-
-  alike_end : {A : Type 0} (k : Option Node → Plan A) (s : Sight) → ((n m : Node) (s : Sight) → IsLike n m → run s (k (Some n)) ≡ run s (k (Some m))) → (o p : Option Node) → AreLike o p → run s (k o) ≡ run s (k p)
-  alike_end k s h None None l = refl
-  alike_end k s h (Some n) (Some m) l = h n m s l
-  alike_end k s h None (Some m) l = absurd l
-  alike_end k s h (Some n) None l = absurd l
 
   module _ (paths : (f : ℕ) → (k : ℕ) × (k < suc (map.len v.nodes)) × Path v.nodes f k) where
     -- where a blind plan is told what is right, and nothing is missing, it ends as over the volume

@@ -11,11 +11,11 @@ use Rattle.sl_model.specs.Laws.{CutsBytes, GrowsByZeros}
 exact_places : CmpEqualImpliesEq place_cmp
 exact_places = exact_pairs nat_cmp nat_cmp exact_unsigned exact_unsigned
 
-missed : (f at : ℕ) (w : Unstable) (b : ℕ) → w.fileid == f ≡ false → byte_after_write f at w b ≡ b
+pub missed : (f at : ℕ) (w : Unstable) (b : ℕ) → w.fileid == f ≡ false → byte_after_write f at w b ≡ b
 missed f at w b e = ap (λ t. cond (t && (nat_le w.offset at && nat_lt at (w.offset + length w.bytes))) (slice_index w.bytes (at - w.offset)) b) e
 
 -- a file without unstable writes has its stable bytes
-cleared : (f at : ℕ) (ws : List Unstable) (b : ℕ) → byte_after f at (without_file f ws) b ≡ b
+pub cleared : (f at : ℕ) (ws : List Unstable) (b : ℕ) → byte_after f at (without_file f ws) b ≡ b
 cleared f at [] b = refl
 cleared f at (w ∷ ws) b =
     elim (w.fileid == f) as (λ t. w.fileid == f ≡ t → byte_after f at (cond t (without_file f ws) (w ∷ without_file f ws)) b ≡ b) [
