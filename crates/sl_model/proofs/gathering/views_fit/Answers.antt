@@ -1,5 +1,5 @@
 use Rattle.sl_model.proofs.Cells.{views_fit}
-use Rattle.sl_model.proofs.laws.views_fit.Goals as goal
+use Rattle.sl_model.proofs.gathering.views_fit.Goals as goal
 
 pub returns : goal.returns
 returns c = views_fit
