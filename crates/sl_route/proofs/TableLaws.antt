@@ -1,41 +1,17 @@
--- What lists of servers make a table.
+-- The lists of a table, and its bytes in parts.
 use Rattle.std.proofs.Common.{◌≡◌, ℕ, Bool, true, false, List, ◌++◌, length, take, drop, sym, ◌∙◌, ap, subst, arith}
-use Rattle.std.specs.Prelude.{IsTrue, slice_index, EachIndex}
+use Rattle.std.specs.Prelude.{IsTrue}
 use Rattle.std.proofs.lemmas.List.{length-append, take_at, drop_at}
 use Rattle.sl_route.specs.declared.class.Class.{Class}
 use Rattle.sl_route.specs.declared.class.Class.TheVariants as class
 use Rattle.sl_route.specs.Places.{Places, of_class}
-use Rattle.sl_route.specs.Tables.{IsServer, HasSites, HasServers, IsTable, table_text}
-
--- each actor of the list is a server of the class
-abbrev pub AreServers : Class → List ℕ → Type 0
-AreServers c actors = EachIndex actors (λ site. IsServer c (slice_index actors site))
-
-module _ (dirs small nodes : List ℕ) where
-  abbrev places : Places
-  places = record { dirs = dirs; small = small; nodes = nodes }
-
-  module _ (d : length dirs ≡ 64) (s : length small ≡ 16) (n : length nodes ≡ 64) where
-    has_sites : HasSites places
-    has_sites class.Dir = d
-    has_sites class.Small = s
-    has_sites class.Node = n
-
-    has_servers : AreServers class.Dir dirs → AreServers class.Small small → AreServers class.Node nodes → HasServers places
-    has_servers each_d each_s each_n class.Dir site lt = each_d site (omega arith)
-    has_servers each_d each_s each_n class.Small site lt = each_s site (omega arith)
-    has_servers each_d each_s each_n class.Node site lt = each_n site (omega arith)
-
-    pub is_table : AreServers class.Dir dirs → AreServers class.Small small → AreServers class.Node nodes → IsTable places
-    is_table each_d each_s each_n = record { sites = has_sites; servers = has_servers each_d each_s each_n }
-
--- ---- the lists of a table
+use Rattle.sl_route.specs.Tables.{AreServers, IsTable, table_text}
 
 -- each list of a table has its servers
 pub of_table : (p : Places) → IsTable p → (c : Class) → AreServers c (of_class p c)
 of_table p is c site lt = is.servers c site (omega (arith, is.sites c))
 
--- a test finds so
+-- and so a test of that doesn't fail
 pub passes : (p : Places) → IsTable p → (c : Class) (passed : Bool) (actors : List ℕ) → (AreServers c actors → IsTrue passed) → passed ≡ false → actors ≡ of_class p c → ⊥
 passes p is c passed actors test failed same = let told : passed ≡ true = test (subst (λ xs. AreServers c xs) (sym same) (of_table p is c)) in cc
 

@@ -2,7 +2,7 @@
 use Rattle.std.specs.Prelude.{◌≡◌, ℕ, ◌+◌, ◌%◌, ◌<◌, ◌≤◌, IsBitSet}
 use Rattle.sl_types.specs.declared.writes.ActorSet.{ActorSet}
 use Rattle.sl_route.specs.declared.class.Class.TheVariants as class
-use Rattle.sl_route.specs.Places.{Places, server_of}
+use Rattle.sl_route.specs.Places.{Places, threshold, server_of}
 
 -- the actor is in the set
 abbrev pub Has : ActorSet → ℕ → Type 0
@@ -22,5 +22,5 @@ pub record HoldsUnit (p : Places) (fileid first end actor : ℕ) : Type 0 where
 -- the server holds bytes of a file below the threshold, of which there is one from an offset up to another
 pub record HoldsSmall (p : Places) (fileid from to actor : ℕ) : Type 0 where
   pub some : from < to
-  pub below : from < 65536
+  pub below : from < threshold
   pub server : actor ≡ server_of p class.Small (fileid % 16)

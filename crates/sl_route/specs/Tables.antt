@@ -1,5 +1,5 @@
 -- What is a table of places: which servers there may be, the even one, and the bytes of one.
-use Rattle.std.specs.Prelude.{◌≡◌, ℕ, ◌+◌, ◌%◌, ◌<◌, ◌≤◌, List, ◌++◌, length}
+use Rattle.std.specs.Prelude.{◌≡◌, ℕ, ◌+◌, ◌%◌, ◌<◌, ◌≤◌, List, ◌++◌, length, slice_index, EachIndex}
 use Rattle.sl_route.specs.declared.class.Class.{Class}
 use Rattle.sl_route.specs.declared.class.Class.TheVariants as class
 use Rattle.sl_route.specs.Places.{sites, first_server, most_servers, Places, of_class, server_of}
@@ -9,6 +9,10 @@ pub record IsServer (c : Class) (server : ℕ) : Type 0 where
   pub first : first_server c ≤ server
   pub last : server < first_server c + most_servers c
 
+-- each actor of the list is one
+abbrev pub AreServers : Class → List ℕ → Type 0
+AreServers c actors = EachIndex actors (λ site. IsServer c (slice_index actors site))
+
 -- each class has all its sites
 abbrev pub HasSites : Places → Type 0
 HasSites p = (c : Class) → length (of_class p c) ≡ sites c
@@ -17,6 +21,7 @@ HasSites p = (c : Class) → length (of_class p c) ≡ sites c
 abbrev pub HasServers : Places → Type 0
 HasServers p = (c : Class) (site : ℕ) → site < sites c → IsServer c (server_of p c site)
 
+-- Each class has all its sites, and each site a server of its class.
 pub record IsTable (p : Places) : Type 0 where
   pub sites : HasSites p
   pub servers : HasServers p

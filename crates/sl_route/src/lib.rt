@@ -11,6 +11,7 @@ mod table;
 
 pub use class::Class;
 pub use sl_types::ActorSet;
+pub use span::{THRESHOLD, UNIT};
 pub use table::Table;
 
 #[cfg(test)]

@@ -1,10 +1,8 @@
 ghost use Rattle.std.specs.Prelude.{◌≡◌, ℕ, ◌+◌, ◌%◌, ◌<◌, ◌≤◌, ◌↔◌, length, slice_index, EachIndex, IsTrue, IfSome, IfNone};
-ghost use Rattle.sl_route.specs.Places.{Places, sites, first_server, most_servers, class_of_byte, server_of, server_of_byte};
-ghost use Rattle.sl_route.specs.Tables.{IsServer, IsTable, count, AreCounts, IsEven, table_text};
-ghost use Rattle.sl_route.specs.Spans.{site_of_unit};
+ghost use Rattle.sl_route.specs.Places.{Places, sites, first_server, most_servers, server_of};
+ghost use Rattle.sl_route.specs.Tables.{IsServer, AreServers, IsTable, count, AreCounts, IsEven, table_text};
 
 use crate::class::Class;
-use crate::span::{THRESHOLD, UNIT};
 use std::marker::Model;
 
 /// Which server carries each logical site of a volume: a server is the number of its actor.
@@ -87,35 +85,12 @@ impl Table {
         }
     }
 
-    /// The server of the file's byte at this offset: below 65536 a small-file server, from there on the storage
-    /// node of its unit of 8192 bytes.
-    #[tactic(auto, unfolding(crate::specs::Places::server_of_byte))]
-    pub fn unit_place(&self, fileid: u64, offset: u64) -> u8
-        ensures server { result ≡ server_of_byte self.now fileid offset }
-        ensures class { IsServer (class_of_byte offset) result }
-    {
-        if offset < THRESHOLD {
-            self.server(Class::Small, (fileid % 16) as u8)
-        } else {
-            self.server(Class::Node, node_site(fileid, offset / UNIT))
-        }
-    }
-
     /// Each class of a table has all its sites, and each site a server of its class.
     pub fn is_whole(&self)
         ensures { IsTable self.now }
     {
         let _ = &self.dirs;
     }
-}
-
-/// The site of a file's unit on storage nodes.
-pub fn node_site(fileid: u64, unit: u64) -> u8
-    ensures unit { result ≡ site_of_unit fileid unit }
-    ensures site { result < 64 }
-{
-    // The sum of the two may pass the end of u64.
-    ((fileid % 64 + unit % 64) % 64) as u8
 }
 
 /// Whether a volume may have so many servers of the class.
@@ -149,7 +124,7 @@ fn deal(places: &mut [u8], first: u8, servers: u8)
 
 /// Whether all these actors are servers of the class.
 fn are_servers(class: Class, actors: &[u8]) -> bool
-    ensures { IsTrue result ↔ EachIndex actors.now (λ site. IsServer class (slice_index actors.now site)) }
+    ensures { IsTrue result ↔ AreServers class actors.now }
 {
     actors.iter().all(|actor| class.has_server(*actor))
 }
