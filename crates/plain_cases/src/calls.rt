@@ -76,8 +76,8 @@ fn stable_of(word: &[u8]) -> Stable {
 
 fn write(alloc: Global, words: &mut Words<'_>) -> Result<Call, NoMemory> {
     let file = words.handle(alloc)?;
-    let offset = words.number();
-    let count = words.small();
+    let offset = words.number_u64();
+    let count = words.number_u32();
     let stable = stable_of(words.word());
     let bytes = words.bytes(alloc)?;
     Ok(Call::Write {
@@ -111,9 +111,9 @@ fn link(alloc: Global, words: &mut Words<'_>) -> Result<Call, NoMemory> {
 
 fn listing(alloc: Global, procedure: u32, words: &mut Words<'_>) -> Result<Call, NoMemory> {
     let dir = words.handle(alloc)?;
-    let cookie = words.number();
-    let cookie_verifier = words.number();
-    let count = words.small();
+    let cookie = words.number_u64();
+    let cookie_verifier = words.number_u64();
+    let count = words.number_u32();
     if procedure == 16 {
         return Ok(Call::Readdir {
             dir,
@@ -127,14 +127,14 @@ fn listing(alloc: Global, procedure: u32, words: &mut Words<'_>) -> Result<Call,
         cookie,
         cookie_verifier,
         dircount: count,
-        maxcount: words.small(),
+        maxcount: words.number_u32(),
     })
 }
 
 fn how_of(words: &mut Words<'_>) -> CreateHow {
     let word = words.word();
     if word == b"exclusive".as_slice() {
-        CreateHow::Exclusive(words.number())
+        CreateHow::Exclusive(words.number_u64())
     } else if word == b"guarded".as_slice() {
         CreateHow::Guarded(words.attributes())
     } else {
@@ -143,8 +143,8 @@ fn how_of(words: &mut Words<'_>) -> CreateHow {
 }
 
 fn device_of(words: &mut Words<'_>) -> Device {
-    let major = words.small();
-    let minor = words.small();
+    let major = words.number_u32();
+    let minor = words.number_u32();
     let attributes = words.attributes();
     Device {
         attributes,
@@ -214,21 +214,21 @@ fn object(alloc: Global, procedure: u32, words: &mut Words<'_>) -> Result<Call, 
         1 => Ok(Call::Getattr { object }),
         4 => Ok(Call::Access {
             object,
-            bits: words.small(),
+            bits: words.number_u32(),
         }),
         5 => Ok(Call::Readlink { link: object }),
         6 => Ok(Call::Read {
             file: object,
-            offset: words.number(),
-            count: words.small(),
+            offset: words.number_u64(),
+            count: words.number_u32(),
         }),
         18 => Ok(Call::Fsstat { object }),
         19 => Ok(Call::Fsinfo { object }),
         20 => Ok(Call::Pathconf { object }),
         _ => Ok(Call::Commit {
             file: object,
-            offset: words.number(),
-            count: words.small(),
+            offset: words.number_u64(),
+            count: words.number_u32(),
         }),
     }
 }

@@ -43,16 +43,16 @@ impl Case {
         if word == b"at".as_slice() {
             self.at = words.time();
         } else if word == b"by".as_slice() {
-            self.uid = words.small();
-            self.gid = words.small();
+            self.uid = words.number_u32();
+            self.gid = words.number_u32();
         } else if word == b"full".as_slice() {
             self.is_full = true;
         } else if word == b"kept".as_slice() {
             self.is_kept = true;
         } else if word == b"flush".as_slice() {
-            self.volume.flush(words.number())?;
+            self.volume.flush(words.number_u64())?;
         } else if word == b"restart".as_slice() {
-            self.volume.restart(alloc, words.number());
+            self.volume.restart(alloc, words.number_u64());
         } else {
             return Ok(false);
         }

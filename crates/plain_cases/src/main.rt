@@ -1,12 +1,13 @@
-//! Performs a table of cases on the plain server, and prints each row that is answered otherwise than it says. The table
-//! stands on standard input, a row a line, and single spaces part a row's words.
+//! Performs a table of cases on the plain server, and prints each row that is answered otherwise than it says. The
+//! table stands on standard input, a row a line, and single spaces part a row's words. Each call is performed on a copy
+//! of the volume, with which the case goes on.
 //!
 //! | Row | What it says |
 //! |---|---|
 //! | `: TITLE` | a case begins, on a new volume of number 7, and this is what it shows |
 //! | `CALL = STATUS` | the call is answered with this status |
 //! | `CALL = STATUS BYTES` | and the reply's results are these bytes, in hexadecimal |
-//! | `times N CALL = STATUS` | the call is performed N times, and answered so each time; from here on no call is performed on a copy |
+//! | `times N CALL = STATUS` | the call is performed N times, and answered so each time; from here on without copies |
 //! | `at SEC.NSEC` | the moment of the calls from here on, at first 0.0 |
 //! | `by UID GID` | their caller, at first 0 0 |
 //! | `full` | no fileid is left for a new object |

@@ -109,7 +109,7 @@ pub fn found(alloc: Global, case: &mut Case, row: &[u8]) -> Result<Finding, NoMe
     }
     let mut words = Words::of(row, 0);
     if words.word() == b"times".as_slice() {
-        let count = words.small();
+        let count = words.number_u32();
         case.stay_in_place();
         return repeated(alloc, case, count, words.rest());
     }

@@ -43,6 +43,7 @@ pub struct Words<'a> {
 }
 
 impl<'a> Words<'a> {
+    /// The words of this text.
     pub fn of(rest: &'a [u8], round: u64) -> Words<'a> {
         Words { rest, round }
     }
@@ -59,20 +60,23 @@ impl<'a> Words<'a> {
         word
     }
 
-    pub fn number(&mut self) -> u64 {
+    /// The number of 64 bits that the next word spells.
+    pub fn number_u64(&mut self) -> u64 {
         number_u64(self.word())
     }
 
-    pub fn small(&mut self) -> u32 {
+    /// The number of 32 bits that the next word spells.
+    pub fn number_u32(&mut self) -> u32 {
         number_u32(self.word())
     }
 
-    /// A time as in `5.6`, of seconds and nanoseconds.
+    /// The next word as a time, as in `5.6` of seconds and nanoseconds.
     pub fn time(&mut self) -> Time {
         time_of(self.word())
     }
 
-    /// `%` is the number of the round, `x*3` is `xxx`, `hex:00` is a zero byte, and all else is itself.
+    /// The bytes of the next word: `%` is the number of the round, `x*3` is `xxx`, `hex:00` is a zero byte, and all
+    /// else is itself.
     pub fn bytes(&mut self, alloc: Global) -> Result<Bytes, NoMemory> {
         let word = self.word();
         if let Some(digits) = behind(word, b"hex:") {
@@ -91,13 +95,14 @@ impl<'a> Words<'a> {
         Ok(Bytes::new(out))
     }
 
+    /// The name whose bytes the next word says.
     pub fn name(&mut self, alloc: Global) -> Result<Name, NoMemory> {
         let bytes = self.bytes(alloc)?;
         Ok(Name::new(bytes))
     }
 
-    /// `dir1` is the handle of the directory of fileid 1, `far1` that of another volume's, and other bytes are as in
-    /// names.
+    /// The handle that the next word says: `dir1` is that of the directory of fileid 1, `far1` that of another
+    /// volume's, and all else is its bytes.
     pub fn handle(&mut self, alloc: Global) -> Result<Fh, NoMemory> {
         let Some(handle) = handle_of(self.rest) else {
             let bytes = self.bytes(alloc)?;
