@@ -9,7 +9,6 @@ use Rattle.sl_defs.proofs.ItemLaws.{u32_found, length-u32_text, opaque_text_is}
 use Rattle.sl_defs.proofs.Readers.{u64_reader}
 use Rattle.sl_defs.proofs.HeaderLaws.{header_found}
 use Rattle.sl_types.specs.declared.call.Stable.{Stable}
-use Rattle.sl_types.specs.declared.call.Stable.TheVariants.{Unstable, DataSync, FileSync}
 use Rattle.sl_types.specs.declared.call.Call.{Call}
 use Rattle.sl_types.specs.declared.call.Call.TheVariants as call
 use Rattle.sl_items.specs.Spelling.{IsFh, stable_number}
@@ -24,6 +23,7 @@ use Rattle.sl_edit.specs.Laws.{with_xid, CallXidsHaveSlots, HandlesHaveSlots, Co
 use Rattle.sl_edit.specs.declared.cuts.Content.{Content}
 use Rattle.sl_edit.specs.Cuts.{word_span, cut_length, padded, cut_packet}
 use Rattle.sl_edit.proofs.Middles.{span_same, three, middle, middle_found, middle_spliced, slot}
+use Rattle.sl_edit.proofs.Numbers.{stable_fits}
 use Rattle.sl_edit.proofs.Handles.{Stands, StandsIf, handle_stands}
 
 -- an opaque's item in its parts
@@ -293,11 +293,6 @@ counts packet header (call.Read file offset count) is = count_has packet header 
 counts packet header other is = no_count packet header other is refl
 
 -- ---- the bytes of WRITE
-
-stable_fits : (s : Stable) → stable_number s < 2 ^ 32
-stable_fits Unstable = omega arith
-stable_fits DataSync = omega arith
-stable_fits FileSync = omega arith
 
 module _ (packet : List ℕ) (header : CallHeader) (file : List ℕ) (offset count : ℕ) (stability : Stable) (bytes : List ℕ) (is : IsCallPacket packet header (call.Write file offset count stability bytes)) where
   abbrev write : Call

@@ -6,3 +6,5 @@ mod ReplyFields
 mod ReplySlots
 mod Fills
 mod Wholes
+mod Arrays
+mod Numbers

@@ -10,7 +10,6 @@ use Rattle.sl_types.specs.declared.attributes.Fattr.{Fattr}
 use Rattle.sl_types.specs.declared.kind.Status.{Status}
 use Rattle.sl_types.specs.declared.kind.Status.TheVariants as status
 use Rattle.sl_types.specs.declared.call.Stable.{Stable}
-use Rattle.sl_types.specs.declared.call.Stable.TheVariants.{Unstable, DataSync, FileSync}
 use Rattle.sl_types.specs.declared.reply.Wcc.{Wcc}
 use Rattle.sl_types.specs.declared.reply.Reply.{Reply}
 use Rattle.sl_types.specs.declared.reply.Reply.TheVariants as reply
@@ -22,6 +21,7 @@ use Rattle.sl_replies.specs.Results.{IsStatus, IsFlag, IsPostOpAttr, IsPostOpFh,
 use Rattle.sl_replies.proofs.ResultReaders.{post_op_attr_reader, post_op_fh_reader}
 use Rattle.sl_edit.specs.Fields.{attributes_of, with_attributes, made_with_attributes, verifier_of, with_verifier, eof_of, with_eof, object_of, with_object, made_with_object}
 use Rattle.sl_edit.specs.Spans.{word_at, behind_u32, behind_handle, behind_pre_op, behind_optional_handle, behind_post_op, behind_wcc, layout_of, attributes_from, attributes_in, verifier_from, verifier_in, last_from, eof_from, eof_in, object_from, object_in}
+use Rattle.sl_edit.proofs.Numbers.{stable_fits}
 use Rattle.sl_edit.proofs.Inner.{InnerIf, At, AtIf, at_end, here, then_more, behind, turned, moved, flagged, ok_passes, fault_stops}
 
 -- ---- what reading passes
@@ -55,11 +55,6 @@ wcc_passes w text rest is =
 u32_passes : (n : ℕ) (text rest : List ℕ) → IsU32 n text → behind_u32 (text ++ rest) ≡ Some rest
 unfolding behind_u32
 u32_passes n text rest is = rw (u32_reader.found n text rest is) refl
-
-stable_fits : (s : Stable) → stable_number s < 2 ^ 32
-stable_fits Unstable = omega arith
-stable_fits DataSync = omega arith
-stable_fits FileSync = omega arith
 
 stable_passes : (s : Stable) (text rest : List ℕ) → IsStable s text → behind_u32 (text ++ rest) ≡ Some rest
 stable_passes s text rest is = u32_passes (stable_number s) text rest (is, stable_fits s)

@@ -25,10 +25,14 @@ abbrev pub bytes_if : List ℕ → Option Span → List ℕ
 bytes_if packet None = []
 bytes_if packet (Some span) = bytes_in packet span
 
+-- the packet with this text in the interval that a field has, if it has one
+abbrev pub refilled : List ℕ → Option Span → List ℕ → List ℕ
+refilled packet None text = packet
+refilled packet (Some span) text = spliced packet span text
+
 -- The edit of a field that stands in this interval, if anywhere. Where there is none, nothing changes.
 abbrev pub Edited : Option Span → List ℕ → List ℕ → List ℕ → Type 0
-Edited None text old new = new ≡ old
-Edited (Some span) text old new = new ≡ spliced old span text
+Edited span text old new = new ≡ refilled old span text
 
 -- The interval of a field with this value: what stands there spells the value, and with the text of another value there,
 -- if it has the same length, the packet says the same but for that value.

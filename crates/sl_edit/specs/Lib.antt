@@ -5,3 +5,5 @@ pub mod Edits
 pub mod Cuts
 pub mod Words
 pub mod Laws
+pub mod Views
+pub mod Lending

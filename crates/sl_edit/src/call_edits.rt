@@ -1,22 +1,13 @@
 //! The edits of a call, on its packet.
-ghost use Rattle.std.specs.Prelude.{◌≡◌, is_some, length, IfSome};
+ghost use Rattle.std.specs.Prelude.{◌≡◌, is_some, length};
 ghost use Rattle.sl_defs.specs.Items.{u32_text};
 ghost use Rattle.sl_edit.specs.Cuts.{IsCut};
-ghost use Rattle.sl_edit.specs.Edits.{Edited, bytes_if};
+ghost use Rattle.sl_edit.specs.Edits.{Edited};
 ghost use Rattle.sl_edit.specs.Spans as spans;
 
 use crate::call_spans::{content_in, count_span, handle_span};
 use crate::cuts::cut;
-use crate::span::{lend, put, put_u32, sized};
-
-/// The bytes of the i-th handle, for writing.
-pub(crate) fn lend_handle(packet: &mut [u8], i: u8) -> Option<&mut [u8]>
-    ensures variant { is_some result ≡ is_some (spans.handle_span i packet.old) }
-    ensures value { IfSome result (λ bytes. bytes.now ≡ bytes_if packet.old (spans.handle_span i packet.old)) }
-{
-    let span = handle_span(i, packet);
-    lend(packet, span)
-}
+use crate::span::{put, put_u32, sized};
 
 /// Writes the i-th handle, if it has this length.
 pub(crate) fn edit_handle(packet: &mut [u8], i: u8, handle: &[u8]) -> bool

@@ -10,6 +10,7 @@ mod call_view;
 mod cuts;
 mod laws;
 mod layout;
+mod lending;
 mod reply_edits;
 mod reply_spans;
 mod reply_view;

@@ -1,24 +1,15 @@
 //! The edits of a reply, on its packet.
-ghost use Rattle.std.specs.Prelude.{◌≡◌, [], ◌∷◌, is_some, IfSome};
+ghost use Rattle.std.specs.Prelude.{◌≡◌, [], ◌∷◌, is_some};
 ghost use Rattle.sl_defs.specs.Items.{u32_text, u64_text};
 ghost use Rattle.sl_items.specs.Spelling.{fattr_text};
 ghost use Rattle.sl_xdr.specs.Reading.{number_of_flag};
-ghost use Rattle.sl_edit.specs.Edits.{Edited, bytes_if};
+ghost use Rattle.sl_edit.specs.Edits.{Edited};
 ghost use Rattle.sl_edit.specs.Spans as spans;
 
 use crate::reply_spans::{attributes_span, eof_span, keepers_span, verifier_span};
-use crate::span::{lend, put, put_u32, put_u64};
+use crate::span::{put, put_u32, put_u64};
 use crate::words::fattr_bytes;
 use sl_types::Fattr;
-
-/// The bytes of the attributes of the object, for writing.
-pub(crate) fn lend_attributes(procedure: u32, packet: &mut [u8]) -> Option<&mut [u8]>
-    ensures variant { is_some result ≡ is_some (spans.attributes_span procedure packet.old) }
-    ensures value { IfSome result (λ bytes. bytes.now ≡ bytes_if packet.old (spans.attributes_span procedure packet.old)) }
-{
-    let span = attributes_span(procedure, packet);
-    lend(packet, span)
-}
 
 /// Writes the attributes of the object.
 pub(crate) fn edit_attributes(procedure: u32, packet: &mut [u8], attributes: &Fattr) -> bool

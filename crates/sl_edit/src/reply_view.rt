@@ -1,25 +1,38 @@
-ghost use Rattle.std.specs.Prelude.{◌≡◌, ◌↔◌, [], ◌∷◌, is_some, true, IfSome, IsSome};
+ghost use Rattle.std.specs.Prelude.{◌≡◌, ◌↔◌, ◌+◌, ◌≤◌, [], ◌∷◌, drop, is_some, length, take, true, IfSome, IsSome};
+ghost use Rattle.std.specs.Borrow.{sem};
 ghost use Rattle.sl_defs.specs.Items.{u32_text, u64_text};
 ghost use Rattle.sl_items.specs.Spelling.{fattr_text};
 ghost use Rattle.sl_xdr.specs.Reading.{number_of_flag};
-ghost use Rattle.sl_edit.specs.Edits.{Edited, bytes_if};
+ghost use Rattle.sl_edit.specs.Edits.{Edited, IsWithin, bytes_if};
+ghost use Rattle.sl_edit.specs.Lending.{ReplyLends, ReplyLendsBytes, ReplyLendsSlot, run_of};
 ghost use Rattle.sl_edit.specs.Packets.{IsReply};
 ghost use Rattle.sl_edit.specs.Spans as spans;
 
-use crate::reply_edits::{
-    clear_keepers, edit_attributes, edit_eof, edit_verifier, lend_attributes,
-};
-use crate::reply_spans::results_in;
-use crate::span::edit_xid;
+use crate::lending::array_at;
+use crate::reply_edits::{clear_keepers, edit_attributes, edit_eof, edit_verifier};
+use crate::reply_spans::{attributes_span, results_in};
+use crate::span::{Span, edit_xid};
+use crate::words::FATTR;
 use sl_replies::is_reply;
 use sl_types::Fattr;
 use sl_xdr::Short;
+use std::marker::Model;
 
-/// A reply in a packet, whose fields are edited in place.
+/// A reply in a packet, whose fields are edited in place. Contracts see its procedure and the reference to its packet.
 #[derive(Drop)]
 pub struct ReplyView<'a> {
     procedure: u32,
     packet: &'a mut [u8],
+}
+
+impl<'a> Model for ReplyView<'a> {
+    ghost use Rattle.sl_edit.specs.Views.{ReplyPacket, reply_code};
+
+    ghost Value = { ReplyPacket };
+
+    ghost coded = { reply_code };
+
+    ghost view = { λ v. record { procedure = v.procedure; packet = v.packet } };
 }
 
 /// Whether the packet is an accepted reply that was a success, with results of this procedure.
@@ -54,13 +67,52 @@ impl<'a> ReplyView<'a> {
         edit_xid(self.packet, xid);
     }
 
+    /// The packet, for writing.
+    fn packet_mut(&mut self) -> &mut [u8]
+        ensures* writes_back { sem 𝓛 (ReplyLends self.entry result) }
+        ensures value { result.now ≡ self.old.packet.now }
+    {
+        self.packet
+    }
+
+    /// N of its bytes from a place on, for writing.
+    fn array_at<const N: usize>(&mut self, from: usize) -> &mut [u8; N]
+        requires { from + N ≤ length self.old.packet.now }
+        ensures* writes_back { sem 𝓛 (ReplyLendsBytes self.entry (run_of from N) result) }
+        ensures value { result.now ≡ take N (drop from self.old.packet.now) }
+    {
+        array_at(self.packet_mut(), from)
+    }
+
+    fn lend(&mut self, span: Option<Span>) -> Option<&mut [u8; FATTR]>
+        requires { IfSome span (IsWithin self.old.packet.now 84) }
+        ensures* writes_back { sem 𝓛 (ReplyLendsSlot self.entry span result) }
+        ensures variant { is_some result ≡ is_some span }
+        ensures value { IfSome result (λ bytes. bytes.now ≡ bytes_if self.old.packet.now span) }
+    {
+        match span {
+            Some(span) => Some(self.array_at(span.from)),
+            None => None,
+        }
+    }
+
+    /// The attributes of the object that the call was about.
+    fn slot_span(&self) -> Option<Span>
+        ensures exact { result ≡ spans.attributes_span self.now.procedure self.now.packet.now }
+        ensures inside { IfSome result (IsWithin self.now.packet.now 84) }
+    {
+        attributes_span(self.procedure, self.packet)
+    }
+
     /// The 84 bytes of the attributes of the object that the call was about, for writing. None exactly where the reply has
-    /// none. `patch_attr` says what the packet is after a write.
-    pub fn attr_slot(&mut self) -> Option<&mut [u8]>
+    /// none. Once the borrow ends, the packet has there what was left in the slot, and every other byte is as it was.
+    pub fn attr_slot(&mut self) -> Option<&mut [u8; FATTR]>
+        ensures* edited { sem 𝓛 (ReplyLendsSlot self.entry (spans.attributes_span self.old.procedure self.old.packet.now) result) }
         ensures variant { is_some result ≡ is_some (spans.attributes_span self.old.procedure self.old.packet.now) }
         ensures value { IfSome result (λ bytes. bytes.now ≡ bytes_if self.old.packet.now (spans.attributes_span self.old.procedure self.old.packet.now)) }
     {
-        lend_attributes(self.procedure, self.packet)
+        let span = self.slot_span();
+        self.lend(span)
     }
 
     /// Writes the attributes of the object that the call was about. False exactly where the reply has none.

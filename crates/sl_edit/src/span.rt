@@ -121,18 +121,6 @@ pub(crate) fn show(packet: &[u8], span: Option<Span>) -> Option<&[u8]>
     }
 }
 
-/// The same for writing.
-pub(crate) fn lend(packet: &mut [u8], span: Option<Span>) -> Option<&mut [u8]>
-    requires { IfSome span (IsOrdered packet.old) }
-    ensures variant { is_some result ≡ is_some span }
-    ensures value { IfSome result (λ bytes. bytes.now ≡ bytes_if packet.old span) }
-{
-    match span {
-        Some(span) => Some(&mut packet[span.from..span.to]),
-        None => None,
-    }
-}
-
 /// Writes the xid.
 pub(crate) fn edit_xid(packet: &mut [u8], xid: u32) -> bool
     ensures edited { Edited (spans.xid_span packet.old) (u32_text xid) packet.old packet.new }

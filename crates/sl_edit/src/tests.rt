@@ -1,3 +1,7 @@
+ghost use Rattle.std.specs.Prelude.{◌≡◌, is_some};
+ghost use Rattle.sl_edit.specs.Edits.{Edited};
+ghost use Rattle.sl_edit.specs.Spans as spans;
+
 use super::*;
 use sl_calls::{read_args, write_args};
 use sl_types::{Fattr, Kind, Time};
@@ -86,26 +90,71 @@ fn what_is_written_anew_has_zero_padding(rt: HostRuntime) -> Result<(), Fail> {
     Ok(())
 }
 
+/// Writes the i-th handle through its slot. Its caller knows of the packet what it would after `set_handle`.
+fn write_handle(view: &mut CallView<'_>, i: u8, handle: &[u8; 32]) -> bool
+    ensures same_packet { view.new.ghost_name ≡ view.old.ghost_name }
+    ensures edited { Edited (spans.sized 32 (spans.handle_span i view.old.now)) handle.now view.old.now view.new.now }
+    ensures done { result ≡ is_some (spans.sized 32 (spans.handle_span i view.old.now)) }
+{
+    match view.handle_mut(i) {
+        Some(slot) => {
+            *slot = *handle;
+            true
+        }
+        None => false,
+    }
+}
+
+/// The same of attributes.
+fn write_attributes(view: &mut ReplyView<'_>, attributes: &[u8; 84]) -> bool
+    ensures same_packet { (view.new.procedure ≡ view.old.procedure) × (view.new.packet.ghost_name ≡ view.old.packet.ghost_name) }
+    ensures edited { Edited (spans.attributes_span view.old.procedure view.old.packet.now) attributes.now view.old.packet.now view.new.packet.now }
+    ensures done { result ≡ is_some (spans.attributes_span view.old.procedure view.old.packet.now) }
+{
+    match view.attr_slot() {
+        Some(slot) => {
+            *slot = *attributes;
+            true
+        }
+        None => false,
+    }
+}
+
 #[test]
-fn the_handle_of_the_root_has_32_bytes(rt: HostRuntime) -> Result<(), Fail> {
-    let mut call = edited_lookup(rt.alloc())?;
+fn a_handle_of_32_bytes_is_lent(rt: HostRuntime) -> Result<(), Fail> {
+    let mut call = packet(rt.alloc(), &LOOKUP, &root_and_name(0x6101_0203))?;
     let mut view = CallView::new(&mut call).ok_or("no call")?;
-    assert_eq!(rt; view.handle_mut(0).ok_or("no handle")?.len(), 32);
-    assert!(rt; view.handle_mut(1).is_none());
+    assert!(rt; write_handle(&mut view, 0, &[7; 32]));
+    assert!(rt; !write_handle(&mut view, 1, &[7; 32]));
+    let seven = 0x0707_0707;
+    let arguments = [
+        32,
+        seven,
+        seven,
+        seven,
+        seven,
+        seven,
+        seven,
+        seven,
+        seven,
+        1,
+        0x6101_0203,
+    ];
+    let expected = packet(rt.alloc(), &LOOKUP, &arguments)?;
+    assert_eq!(rt; call.as_slice(), expected.as_slice());
     Ok(())
 }
 
 #[test]
-fn handles_are_shown_and_lent(rt: HostRuntime) -> Result<(), Fail> {
+fn other_handles_are_shown_and_written(rt: HostRuntime) -> Result<(), Fail> {
     // a handle of one byte and the name `a`, with padding of 01 02 03
     let mut call = packet(rt.alloc(), &LOOKUP, &[1, 0x6801_0203, 1, 0x6101_0203])?;
     let mut view = CallView::new(&mut call).ok_or("no call")?;
     assert_eq!(rt; view.handle(0).ok_or("no handle")?, b"h".as_slice());
     assert!(rt; view.handle(1).is_none());
-    let slot = view.handle_mut(0).ok_or("no handle")?;
-    assert_eq!(rt; slot.len(), 1);
-    slot.copy_from_slice(b"k");
+    assert!(rt; view.handle_mut(0).is_none());
     assert!(rt; !view.set_handle(0, b"kk"));
+    assert!(rt; view.set_handle(0, b"k"));
     let expected = packet(rt.alloc(), &LOOKUP, &[1, 0x6b01_0203, 1, 0x6101_0203])?;
     assert_eq!(rt; call.as_slice(), expected.as_slice());
     Ok(())
@@ -142,11 +191,8 @@ fn rename_and_link_have_a_second_handle(rt: HostRuntime) -> Result<(), Fail> {
 fn attributes_are_lent(rt: HostRuntime) -> Result<(), Fail> {
     let mut reply = reply_with(rt.alloc(), &[0, 1], &OLD_WORDS, &[63])?;
     let mut view = ReplyView::new(4, &mut reply).ok_or("no reply")?;
-    let root = text(rt.alloc(), &ROOT_WORDS)?;
-    let slot = view.attr_slot().ok_or("no slot")?;
-    assert_eq!(rt; slot.len(), root.len());
-    slot.copy_from_slice(&root);
-    let expected = reply_with(rt.alloc(), &[0, 1], &ROOT_WORDS, &[63])?;
+    assert!(rt; write_attributes(&mut view, &[1; 84]));
+    let expected = reply_with(rt.alloc(), &[0, 1], &[0x0101_0101; 21], &[63])?;
     assert_eq!(rt; reply.as_slice(), expected.as_slice());
     Ok(())
 }
@@ -194,7 +240,7 @@ fn is_cut(alloc: Global, n: u32, arguments: &[u32]) -> Result<bool, Fail> {
         &WRITE,
         &[0, 0, 8, 7, 2, 5, 0x6162_6364, 0x6501_0203, 7],
     )?;
-    let view = CallView::new(&mut call).ok_or("no call")?;
+    let mut view = CallView::new(&mut call).ok_or("no call")?;
     let length = view.cut_write(n).ok_or("not cut")?;
     let expected = packet(alloc, &WRITE, arguments)?;
     let (cut, _) = call.as_slice().split_at_checked(length).ok_or("short")?;

@@ -8,7 +8,7 @@ ghost use Rattle.sl_edit.specs.Words.{Filled};
 use sl_types::{Fattr, Time};
 
 /// How many bytes attributes take (RFC 1813, section 2.5, `fattr3`).
-const FATTR: usize = 84;
+pub(crate) const FATTR: usize = 84;
 
 /// Writes an item from a place on, and gives the place behind it.
 fn fill(out: &mut [u8], at: usize, item: &[u8]) -> usize
