@@ -1,5 +1,5 @@
 -- A WRITE that is cut to its first bytes (RFC 1813, section 3.3.7).
-use Rattle.std.specs.Prelude.{◌≡◌, ℕ, ◌+◌, ◌≤◌, List, length, replicate, Option, Some, None, Bool, true, false, nat_lt}
+use Rattle.std.specs.Prelude.{◌≡◌, ℕ, ◌+◌, ◌≤◌, List, length, replicate, take, Option, Some, None, Bool, true, false, nat_lt}
 use Rattle.sl_defs.specs.Items.{u32_text, padding}
 use Rattle.sl_edit.specs.declared.span.Span.{Span}
 use Rattle.sl_edit.specs.declared.cuts.Content.{Content}
@@ -25,6 +25,11 @@ padded content n packet = spliced packet (record { from = content.bytes + n; to 
 -- and n for the count and for the number of bytes
 abbrev pub cut_packet : Content → ℕ → List ℕ → List ℕ
 cut_packet content n packet = spliced (spliced (padded content n packet) (word_span content.number) (u32_text n)) (word_span content.count) (u32_text n)
+
+-- the packet that is left, where it is a WRITE
+abbrev pub shortened : Option Content → ℕ → List ℕ → List ℕ
+shortened None n packet = packet
+shortened (Some content) n packet = take (cut_length content n) (cut_packet content n packet)
 
 -- A cut to n bytes, where it is told whether there are fewer.
 abbrev pub IsCutWhere : Bool → Content → ℕ → List ℕ → List ℕ → Option ℕ → Type 0

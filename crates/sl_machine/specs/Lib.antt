@@ -1,0 +1,17 @@
+pub mod Records
+pub mod Memory
+pub mod World
+pub mod Calls
+pub mod Knowing
+pub mod Parts
+pub mod Wants
+pub mod Packets
+pub mod Verdicts
+pub mod Directories
+pub mod Stores
+pub mod Coordinators
+pub mod Proxies
+pub mod Openings
+pub mod Runs
+pub mod Disks
+pub mod Shows
