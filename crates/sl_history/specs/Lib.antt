@@ -6,3 +6,6 @@ pub mod Legal
 pub mod Licensed
 pub mod Placing
 pub mod Wired
+pub mod Fenced
+pub mod Completing
+pub mod Remembering

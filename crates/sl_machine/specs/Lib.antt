@@ -15,3 +15,4 @@ pub mod Openings
 pub mod Runs
 pub mod Disks
 pub mod Shows
+pub mod Claims
