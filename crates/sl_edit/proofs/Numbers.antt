@@ -1,5 +1,5 @@
 -- The number of how stable a write is to be fits four bytes.
-use Rattle.std.proofs.Common.{ℕ, ◌^◌, ◌<◌, arith}
+use Rattle.std.proofs.Common.{◌^◌, ◌<◌, arith}
 use Rattle.sl_types.specs.declared.call.Stable.{Stable}
 use Rattle.sl_types.specs.declared.call.Stable.TheVariants.{Unstable, DataSync, FileSync}
 use Rattle.sl_items.specs.Spelling.{stable_number}

@@ -1,5 +1,5 @@
 -- What a packet, or a view of one, is once what it lent for writing has ended.
-use Rattle.std.specs.Prelude.{ℕ, ◌+◌, List, [], ◌∷◌, Option}
+use Rattle.std.specs.Prelude.{ℕ, ◌+◌, List, [], Option}
 use Rattle.std.specs.Borrow.{Lends, LendsIf, MutBor, Fml, Array, u8}
 use mir.Syntax.{named}
 use Rattle.sl_edit.specs.declared.span.Span.{Span}
