@@ -1,19 +1,16 @@
 -- Datagrams: which are calls, which are answered whatever the server holds, and which are dropped.
 use Rattle.std.specs.Prelude.{ℕ, ◌==◌, List, [], ◌∷◌, ◌++◌, Option, Some, None, Bool, true, false, not, ◌&&◌, ◌||◌, nat_le, length, filter, if◌then◌else◌, option_and_then}
-use Rattle.sl_defs.specs.Histories.{Happening, Opens, Reaches, Happens}
 use Rattle.sl_defs.specs.Rpc.{CallHeader, call_header_at, immediate_reply, accepted_text}
-use Rattle.sl_defs.specs.declared.event.Event.TheVariants as event
-use Rattle.sl_defs.specs.declared.setup.Setup.{Setup}
 use Rattle.sl_types.specs.declared.cred.Cred.{Cred}
 use Rattle.sl_types.specs.declared.call.Call.{Call}
 use Rattle.sl_types.specs.declared.call.Call.TheVariants as call
+use Rattle.sl_types.specs.declared.handle.Handle.{Handle}
 use Rattle.sl_types.specs.declared.reply.Reply.{Reply}
 use Rattle.sl_rpc.specs.Heads.{caller_of}
 use Rattle.sl_calls.specs.Reading.{args_at}
 use Rattle.sl_replies.specs.Texts.{reply_text}
 use Rattle.sl_model.specs.Procedures.{is_reading}
-use Rattle.sl_frames.specs.Actors.{is_proxy}
-use Rattle.sl_history.specs.Turns.{Remark, Sent, Replied, Verf, Junk, Early, Full, Lost, Down, Turn, History, events, turn_of, datagram_of}
+use Rattle.sl_history.specs.Turns.{Remark, Replied, Verf, Junk, Early, Full, Lost, Turn, History, events, turn_of, datagram_of}
 use Rattle.sl_history.specs.Frames.{is_up, last_hello, last_verf}
 
 -- ---- what a datagram is
@@ -72,6 +69,11 @@ is_commit other = false
 -- a call that may change something
 abbrev pub is_changing : Call → Bool
 is_changing c = not (is_reading c) && not (is_commit c)
+
+-- the fileid of a handle, 0 for what is none
+abbrev pub fileid_of : Option Handle → ℕ
+fileid_of None = 0
+fileid_of (Some h) = h.fileid
 
 -- ---- calls that wait for their reply
 

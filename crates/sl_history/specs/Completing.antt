@@ -1,8 +1,8 @@
 -- What holds of a history in which nothing is lost, stops or fails: everything is answered, by a bounded number of frames.
 use Rattle.std.specs.Prelude.{◌≡◌, ℕ, ◌+◌, ◌*◌, ◌≤◌, List, [], ◌∷◌, Bool, true, false, not, ◌&&◌, if◌then◌else◌}
-use Rattle.sl_defs.specs.Histories.{Happening, Opens, Reaches, Happens}
+use Rattle.sl_defs.specs.Histories.{Happening, Happens}
 use Rattle.sl_defs.specs.declared.event.Event.TheVariants as event
-use Rattle.sl_history.specs.Turns.{Remark, Down, Turn, History}
+use Rattle.sl_history.specs.Turns.{Remark, Down, History}
 use Rattle.sl_history.specs.Frames.{in_flight}
 use Rattle.sl_history.specs.Arrivals.{waiting, is_welcomed}
 

@@ -1,6 +1,6 @@
 -- A history is fenced where nothing of an earlier fence takes effect by the coordinator, or is replied, once a later fence's
 -- write verifier stands.
-use Rattle.std.specs.Prelude.{◌≡◌, ℕ, ◌≤◌, List, [], ◌∷◌, ◌++◌, Option, Some, None, Bool, true, false, if◌then◌else◌}
+use Rattle.std.specs.Prelude.{◌≡◌, ℕ, ◌≤◌, List, [], ◌∷◌, ◌++◌, Option, Some, None, true}
 use Rattle.sl_frames.specs.Actors.{is_coordinator}
 use Rattle.sl_frames.specs.declared.frame.Frame.{Frame}
 use Rattle.sl_history.specs.Turns.{Remark, Did, Flush, Replied, Turn, History, so_far}

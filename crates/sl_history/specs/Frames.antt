@@ -1,6 +1,6 @@
 -- Frames in a history: which were sent, given and are in flight; which actors are up; the fences.
 use Rattle.std.specs.Prelude.{◌≡◌, ℕ, ◌==◌, List, [], ◌∷◌, Option, Some, None, Bool, true, false, not, ◌&&◌, ◌||◌, nat_le, nat_lt, if◌then◌else◌, ◌⊎◌, ◌+◌, option_and_then}
-use Rattle.sl_defs.specs.Histories.{Happening, Opens, Reaches, Happens}
+use Rattle.sl_defs.specs.Histories.{Happening, Opens, Happens}
 use Rattle.sl_defs.specs.declared.event.Event.TheVariants as event
 use Rattle.sl_defs.specs.declared.setup.Setup.{Setup}
 use Rattle.sl_frames.specs.declared.frame.Frame.{Frame}

@@ -1,8 +1,8 @@
 -- A history is legal where its effects, in the order in which they are noted, give exactly the replies that one server
 -- gives (RFC 1813): each call takes effect at most once, after it came and before its one reply.
-use Rattle.std.specs.Prelude.{◌≡◌, ◌≢◌, ℕ, ◌+◌, ◌==◌, ◌≤◌, List, [], ◌∷◌, ◌++◌, Option, Some, None, Bool, true, false, not, ◌&&◌, ◌||◌, Ok, Err, Result, All, Contains, if◌then◌else◌, ◌⊎◌}
+use Rattle.std.specs.Prelude.{◌≡◌, ℕ, ◌+◌, ◌==◌, ◌≤◌, List, [], ◌∷◌, ◌++◌, Option, Some, None, Bool, true, false, not, ◌||◌, Ok, Contains, ◌⊎◌}
 use Rattle.std.specs.FinMap as map
-use Rattle.sl_defs.specs.Histories.{Happening, Opens, Reaches, Happens}
+use Rattle.sl_defs.specs.Histories.{Happening, Happens}
 use Rattle.sl_defs.specs.declared.event.Event.TheVariants as event
 use Rattle.sl_defs.specs.declared.setup.Time.{Time}
 use Rattle.sl_defs.specs.declared.note.Choice.{Choice}
@@ -10,8 +10,6 @@ use Rattle.sl_types.specs.declared.call.Call.{Call}
 use Rattle.sl_types.specs.declared.call.Call.TheVariants as call
 use Rattle.sl_types.specs.declared.call.Stable.{Stable}
 use Rattle.sl_types.specs.declared.call.Stable.TheVariants as stable
-use Rattle.sl_types.specs.declared.kind.Kind.TheVariants as kind
-use Rattle.sl_types.specs.declared.handle.Handle.{Handle}
 use Rattle.sl_types.specs.Handles.{handle_of}
 use Rattle.sl_types.specs.declared.reply.Reply.{Reply}
 use Rattle.sl_types.specs.declared.reply.Reply.TheVariants as reply
@@ -20,8 +18,8 @@ use Rattle.sl_model.specs.Volume.{Volume}
 use Rattle.sl_model.specs.Gathered.{is_unstable}
 use Rattle.sl_model.specs.Laws.{status_of}
 use Rattle.sl_model.specs.Perform.{perform}
-use Rattle.sl_history.specs.Turns.{Remark, Sent, Did, Flush, Verf, Replied, Junk, Early, Full, Lost, Down, Turn, History, events, so_far, turn_of, datagram_of}
-use Rattle.sl_history.specs.Arrivals.{Datagram, IsJunk, IsAnswered, IsAsked, Asked, asked, answer_to, datagram, is_changing, is_commit, drops_any, dropped_by}
+use Rattle.sl_history.specs.Turns.{Remark, Did, Replied, Turn, History, events, so_far, turn_of, datagram_of}
+use Rattle.sl_history.specs.Arrivals.{Datagram, IsJunk, IsAnswered, IsAsked, Asked, asked, answer_to, datagram, is_changing, drops_any, fileid_of}
 use Rattle.sl_history.specs.Volumes.{volume_after, volume_at, Effect, effect, outcome}
 use Rattle.sl_history.specs.Frames.{is_up}
 
@@ -104,13 +102,9 @@ IsOfEffectIf e bytes a (Some x) = IsOfEffect e bytes a x
 abbrev pub no_choice : Choice
 no_choice = record { fileid = 0; kept = false }
 
-abbrev pub file_of : Option Handle → ℕ
-file_of None = 0
-file_of (Some h) = h.fileid
-
 -- what COMMIT is asked for has no unstable writes
 abbrev pub is_settled : Volume → Call → Bool
-is_settled v (call.Commit file offset count) = not (is_unstable (file_of (handle_of file)) v.unstable)
+is_settled v (call.Commit file offset count) = not (is_unstable (fileid_of (handle_of file)) v.unstable)
 is_settled v other = true
 
 -- The reply to a call that only asks: what the server answers at the end of event e, which isn't before the call's.

@@ -1,14 +1,13 @@
 -- A history is licensed where what it drops, forgets, flushes and keeps, it may.
-use Rattle.std.specs.Prelude.{◌≡◌, ℕ, ◌+◌, ◌==◌, ◌<◌, ◌≤◌, List, [], ◌∷◌, ◌++◌, Option, Some, None, Bool, true, false, not, ◌&&◌, ◌||◌, nat_le, length, filter, Contains, if◌then◌else◌, option_and_then}
+use Rattle.std.specs.Prelude.{◌≡◌, ℕ, ◌+◌, ◌==◌, ◌<◌, ◌≤◌, List, [], ◌∷◌, ◌++◌, Option, Some, None, Bool, true, false, not, ◌&&◌, ◌||◌, nat_le, length, filter, if◌then◌else◌}
 use Rattle.std.specs.List.{list_any}
 use Rattle.std.specs.FinMap as map
-use Rattle.sl_defs.specs.Histories.{Happening, Opens, Reaches, Happens}
+use Rattle.sl_defs.specs.Histories.{Happening, Happens}
 use Rattle.sl_defs.specs.declared.event.Event.TheVariants as event
 use Rattle.sl_defs.specs.declared.setup.Time.{Time}
 use Rattle.sl_defs.specs.declared.note.Choice.{Choice}
 use Rattle.sl_types.specs.declared.call.Call.{Call}
 use Rattle.sl_types.specs.declared.call.Call.TheVariants as call
-use Rattle.sl_types.specs.declared.call.Stable.{Stable}
 use Rattle.sl_types.specs.declared.call.Stable.TheVariants as stable
 use Rattle.sl_types.specs.declared.kind.Status.{Status}
 use Rattle.sl_types.specs.declared.kind.Status.TheVariants as status
@@ -18,7 +17,6 @@ use Rattle.sl_model.specs.declared.node.Entry.{Entry}
 use Rattle.sl_model.specs.Volume.{Volume, Unstable, is_dir}
 use Rattle.sl_model.specs.Gathered.{is_unstable}
 use Rattle.sl_model.specs.Laws.{status_of}
-use Rattle.sl_model.specs.Looking.{Outcome}
 use Rattle.sl_model.specs.Perform.{perform}
 use Rattle.sl_frames.specs.Actors.{is_proxy, is_coordinator, is_data}
 use Rattle.sl_frames.specs.declared.frame.Frame.{Frame}
@@ -26,10 +24,9 @@ use Rattle.sl_frames.specs.declared.body.Body.{Body}
 use Rattle.sl_frames.specs.declared.body.Body.TheVariants as body
 use Rattle.sl_frames.specs.declared.intent.What.{What}
 use Rattle.sl_frames.specs.declared.intent.What.TheVariants as what
-use Rattle.sl_frames.specs.declared.intent.Intent.{Intent}
 use Rattle.sl_history.specs.Turns.{Remark, Sent, Did, Flush, Verf, Junk, Early, Full, Lost, Down, Turn, History, events, so_far, datagram_of}
-use Rattle.sl_history.specs.Frames.{or_else, is_up, given_by, WasGiven, WasSent, frame}
-use Rattle.sl_history.specs.Arrivals.{Asked, asked, drops, dropped_by, is_commit, is_changing}
+use Rattle.sl_history.specs.Frames.{or_else, is_up, given_by, WasGiven, WasSent}
+use Rattle.sl_history.specs.Arrivals.{Asked, asked, dropped_by, is_commit, is_changing, fileid_of}
 use Rattle.sl_history.specs.Volumes.{volume_after}
 
 -- ---- lists without repeats
@@ -270,13 +267,9 @@ unfoldable pub had_many : Volume → History → ℕ → ℕ → Bool
 had_many start [] n f = false
 had_many start (t ∷ past) n f = (nat_le n (events (t ∷ past)) && has_many start (t ∷ past) f) || had_many start past n f
 
-abbrev pub handle_file : Option Handle → ℕ
-handle_file None = 0
-handle_file (Some h) = h.fileid
-
 -- An unstable WRITE is kept only where so many other files have unstable writes.
 abbrev pub MayBeKept : Volume → History → ℕ → Choice → Call → Type 0
-MayBeKept start h n choice (call.Write file offset count stable.Unstable bytes) = choice.kept ≡ true → had_many start h n (handle_file (handle_of file)) ≡ true
+MayBeKept start h n choice (call.Write file offset count stable.Unstable bytes) = choice.kept ≡ true → had_many start h n (fileid_of (handle_of file)) ≡ true
 MayBeKept start h n choice other = Unit {0}
 
 -- ---- no fileid is left

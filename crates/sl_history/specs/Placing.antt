@@ -1,5 +1,5 @@
 -- Where the parts of a volume lie in an ensemble.
-use Rattle.std.specs.Prelude.{ℕ, ◌+◌, ◌%◌, ◌==◌, Bool, List}
+use Rattle.std.specs.Prelude.{ℕ, ◌+◌, ◌%◌, List}
 use Rattle.sl_defs.specs.declared.setup.Setup.{Setup}
 use Rattle.sl_route.specs.declared.class.Class.{Class}
 use Rattle.sl_route.specs.declared.class.Class.TheVariants as class

@@ -1,8 +1,8 @@
 -- A history remembers where the proxy uses the attributes of a file that it was just told, and asks no server for them
 -- again.
-use Rattle.std.specs.Prelude.{◌≡◌, ℕ, ◌+◌, ◌==◌, ◌<◌, List, [], ◌∷◌, ◌++◌, Option, Some, None, Bool, true, false, not, ◌&&◌, ◌||◌, nat_le, filter, length, Result, Ok, Err, if◌then◌else◌, option_and_then}
+use Rattle.std.specs.Prelude.{◌≡◌, ℕ, ◌+◌, ◌==◌, ◌<◌, List, [], ◌∷◌, ◌++◌, Option, Some, None, Bool, true, false, not, ◌&&◌, ◌||◌, nat_le, Ok, if◌then◌else◌, option_and_then}
 use Rattle.std.specs.List.{list_any}
-use Rattle.sl_defs.specs.Histories.{Happening, Opens, Reaches, Happens}
+use Rattle.sl_defs.specs.Histories.{Happening, Happens}
 use Rattle.sl_defs.specs.declared.event.Event.TheVariants as event
 use Rattle.sl_types.specs.declared.attributes.Fattr.{Fattr}
 use Rattle.sl_types.specs.declared.call.Call.{Call}
@@ -14,7 +14,6 @@ use Rattle.sl_types.specs.declared.reply.Reply.TheVariants as reply
 use Rattle.sl_model.specs.Volume.{is_dir, is_reg}
 use Rattle.sl_cells.specs.declared.keys.CellKey.{CellKey}
 use Rattle.sl_cells.specs.declared.keys.CellKey.TheVariants as key
-use Rattle.sl_frames.specs.declared.frame.Frame.{Frame}
 use Rattle.sl_frames.specs.declared.body.Body.{Body}
 use Rattle.sl_frames.specs.declared.body.Body.TheVariants as body
 use Rattle.sl_history.specs.Turns.{Remark, Sent, Flush, Verf, Replied, Turn, History, events, so_far}

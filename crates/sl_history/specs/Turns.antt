@@ -1,9 +1,8 @@
 -- Histories of the whole ensemble, the newest turn first, and their printed text.
-use Rattle.std.specs.Prelude.{ℕ, ◌+◌, ◌==◌, List, [], ◌∷◌, Option, Some, None, Bool, true, false, ◌&&◌, map, if◌then◌else◌}
+use Rattle.std.specs.Prelude.{ℕ, ◌+◌, ◌==◌, List, [], ◌∷◌, Option, Some, None, Bool, ◌&&◌, map, if◌then◌else◌}
 use Rattle.sl_defs.specs.Histories.{Happening, Opens, Reaches, Happens, event_count}
 use Rattle.sl_defs.specs.Histories as defs
 use Rattle.sl_defs.specs.declared.setup.Time.{Time}
-use Rattle.sl_defs.specs.declared.event.Event.{Event}
 use Rattle.sl_defs.specs.declared.event.Event.TheVariants as event
 use Rattle.sl_defs.specs.declared.note.Choice.{Choice}
 use Rattle.sl_defs.specs.declared.note.Printed.{Printed}

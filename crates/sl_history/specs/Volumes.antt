@@ -5,7 +5,7 @@ use Rattle.sl_defs.specs.declared.note.Choice.{Choice}
 use Rattle.sl_types.specs.declared.reply.Reply.{Reply}
 use Rattle.sl_model.specs.Volume.{Volume, flush, restart}
 use Rattle.sl_model.specs.Perform.{perform}
-use Rattle.sl_history.specs.Turns.{Remark, Did, Flush, Verf, Turn, History, events}
+use Rattle.sl_history.specs.Turns.{Remark, Did, Flush, Verf, History, events}
 use Rattle.sl_history.specs.Arrivals.{Asked, asked}
 use Rattle.sl_history.specs.Frames.{or_else}
 

@@ -1,17 +1,14 @@
 -- A history is wired where its frames and servers play the parts that they are there for: answers follow their requests,
 -- what servers tell is what lies with them, and an effect comes from those on whose disks it stands.
-use Rattle.std.specs.Prelude.{◌≡◌, ◌≢◌, ℕ, ◌+◌, ◌-◌, ◌%◌, ◌==◌, ◌<◌, ◌≤◌, List, [], ◌∷◌, ◌++◌, Option, Some, None, Bool, true, false, not, ◌&&◌, ◌||◌, nat_le, nat_lt, length, filter, map, Result, Ok, Err, if◌then◌else◌, ◌⊎◌, option_map, option_and_then}
+use Rattle.std.specs.Prelude.{◌≡◌, ◌≢◌, ℕ, ◌+◌, ◌==◌, List, [], ◌∷◌, ◌++◌, Option, Some, None, Bool, true, false, not, ◌&&◌, ◌||◌, nat_lt, length, filter, map, Ok, if◌then◌else◌, ◌⊎◌, option_map, option_and_then}
 use Rattle.std.specs.Option.{unwrap_or}
 use Rattle.std.specs.FinMap as map
-use Rattle.sl_defs.specs.Histories.{Happening, Opens, Reaches, Happens}
+use Rattle.sl_defs.specs.Histories.{Happening, Opens, Happens}
 use Rattle.sl_defs.specs.declared.event.Event.TheVariants as event
 use Rattle.sl_defs.specs.declared.setup.Setup.{Setup}
-use Rattle.sl_defs.specs.declared.setup.Time.{Time}
 use Rattle.sl_defs.specs.declared.note.Choice.{Choice}
-use Rattle.sl_types.specs.declared.kind.Kind.{Kind}
 use Rattle.sl_types.specs.declared.call.Call.{Call}
 use Rattle.sl_types.specs.declared.call.Call.TheVariants as call
-use Rattle.sl_types.specs.declared.handle.Handle.{Handle}
 use Rattle.sl_types.specs.declared.handle.InternalHandle.{InternalHandle}
 use Rattle.sl_types.specs.Handles.{handle_of, internal_of}
 use Rattle.sl_types.specs.declared.reply.Reply.{Reply}
@@ -22,7 +19,7 @@ use Rattle.sl_model.specs.declared.node.Node.{Node}
 use Rattle.sl_model.specs.declared.node.Entry.{Entry}
 use Rattle.sl_model.specs.declared.node.Listed.{Listed}
 use Rattle.sl_model.specs.Plan.{Key, NodeKey, NameKey}
-use Rattle.sl_model.specs.Volume.{Volume, name_cmp, is_dir, is_reg, listed}
+use Rattle.sl_model.specs.Volume.{Volume, is_dir, is_reg, listed}
 use Rattle.sl_model.specs.Gathered.{is_unstable}
 use Rattle.sl_model.specs.Looking.{attributes, line_size}
 use Rattle.sl_policy.specs.Sites.{site_of, object_site}
@@ -36,10 +33,10 @@ use Rattle.sl_frames.specs.declared.found.FoundCell.TheVariants as found
 use Rattle.sl_frames.specs.declared.frame.Frame.{Frame}
 use Rattle.sl_frames.specs.declared.body.Body.{Body}
 use Rattle.sl_frames.specs.declared.body.Body.TheVariants as body
-use Rattle.sl_history.specs.Turns.{Remark, Sent, Did, Flush, Replied, Turn, History, events, so_far}
-use Rattle.sl_history.specs.Frames.{frame, event_of_sending, named_number, given_number, given_by, in_flight, is_up, WasGiven}
-use Rattle.sl_history.specs.Arrivals.{Asked, asked, IsAsked, datagram, asked_in, is_commit}
-use Rattle.sl_history.specs.Volumes.{volume_after, volume_at, after_note}
+use Rattle.sl_history.specs.Turns.{Remark, Sent, Did, Flush, Replied, Turn, History, so_far}
+use Rattle.sl_history.specs.Frames.{frame, event_of_sending, named_number, given_number, in_flight, WasGiven}
+use Rattle.sl_history.specs.Arrivals.{Asked, asked, datagram, asked_in, fileid_of}
+use Rattle.sl_history.specs.Volumes.{volume_after, after_note}
 use Rattle.sl_history.specs.Licensed.{request, reaches}
 use Rattle.sl_history.specs.Placing.{object_server, name_server, byte_server, key_server}
 
@@ -176,10 +173,6 @@ pub record IsRead (setup : Setup) (past : History) (t : Turn) (e f offset : ℕ)
   pub served : IsServedBy past t (byte_server setup f offset) packet
   pub sent : given_event past t.happening ≡ Some e
   pub same : read_bytes (results_of 6 packet) ≡ Some bytes
-
-abbrev pub fileid_of : Option Handle → ℕ
-fileid_of None = 0
-fileid_of (Some h) = h.fileid
 
 abbrev pub IsReadIf : Setup → History → Turn → ℕ → Call → Option (List ℕ) → Type 0
 IsReadIf setup past t e (call.Read file offset count) (Some bytes) = IsRead setup past t e (fileid_of (handle_of file)) offset bytes

@@ -1,9 +1,8 @@
 -- What a call is about before anything is known of the volume: its handles, its names, and what it answers of itself.
-use Rattle.std.specs.Prelude.{ℕ, ◌==◌, List, [], ◌∷◌, ◌++◌, Option, Some, None, Bool, true, false, not, ◌&&◌, ◌||◌, filter, filter_map, map, Result, Ok, Err, if◌then◌else◌, option_to_list}
-use Rattle.std.specs.List.{list_any, list_all}
+use Rattle.std.specs.Prelude.{ℕ, ◌==◌, List, [], ◌∷◌, ◌++◌, Option, Some, None, Bool, true, false, not, ◌&&◌, ◌||◌, filter, filter_map, Result, Ok, Err, if◌then◌else◌, option_to_list}
+use Rattle.std.specs.List.{list_any}
 use Rattle.sl_defs.specs.declared.setup.Setup.{Setup}
 use Rattle.sl_defs.specs.declared.setup.Time.{Time}
-use Rattle.sl_defs.specs.declared.note.Choice.{Choice}
 use Rattle.sl_types.specs.declared.call.Call.{Call}
 use Rattle.sl_types.specs.declared.call.Call.TheVariants as call
 use Rattle.sl_types.specs.declared.kind.Status.{Status}
@@ -14,7 +13,7 @@ use Rattle.sl_types.specs.Handles.{handle_of}
 use Rattle.sl_edit.specs.Fields.{first_handle, second_handle}
 use Rattle.sl_cells.specs.Reading.{is_id}
 use Rattle.sl_model.specs.Plan.{run}
-use Rattle.sl_model.specs.Volume.{is_dir, is_reg}
+use Rattle.sl_model.specs.Volume.{is_dir}
 use Rattle.sl_model.specs.Checks.{is_dots}
 use Rattle.sl_model.specs.Looking.{Outcome}
 use Rattle.sl_model.specs.Changing.{given, is_too_big, special_of, Special}
@@ -22,7 +21,7 @@ use Rattle.sl_model.specs.Gathered.{Gathered, sight_in}
 use Rattle.sl_model.specs.Procedures.{plan}
 use Rattle.sl_history.specs.Arrivals.{is_changing, is_commit}
 use Rattle.sl_history.specs.Legal.{no_choice}
-use Rattle.sl_machine.specs.Memory.{LockKey, Hold}
+use Rattle.sl_machine.specs.Memory.{Hold}
 
 -- ---- handles
 

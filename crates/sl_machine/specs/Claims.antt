@@ -1,8 +1,7 @@
 -- What is claimed of a world and its history together: its disks are sound for the volume that the notes leave, and what the
 -- proxy and the data servers hold is the volume's.
-use Rattle.std.specs.Prelude.{◌≡◌, ℕ, ◌==◌, List, [], ◌∷◌, ◌++◌, Option, Some, None, Bool, true, false, not, ◌&&◌, ◌||◌, filter, IsPermutation, if◌then◌else◌, option_map}
+use Rattle.std.specs.Prelude.{◌≡◌, ℕ, ◌==◌, List, [], ◌∷◌, ◌++◌, Option, Some, None, Bool, true, false, not, ◌&&◌, IsPermutation, if◌then◌else◌, option_map}
 use Rattle.std.specs.List.{list_any}
-use Rattle.std.specs.Option.{unwrap_or}
 use Rattle.std.specs.FinMap as map
 use Rattle.sl_defs.specs.declared.setup.Setup.{Setup}
 use Rattle.sl_types.specs.declared.attributes.Fattr.{Fattr}
@@ -15,12 +14,12 @@ use Rattle.sl_frames.specs.declared.work.Work.TheVariants as work
 use Rattle.sl_history.specs.Turns.{Remark, History}
 use Rattle.sl_history.specs.Volumes.{volume_after, after_notes}
 use Rattle.sl_history.specs.Placing.{byte_server}
-use Rattle.sl_machine.specs.Records.{Record, Held, boot_of, locked_in}
-use Rattle.sl_machine.specs.Memory.{Hold, Waiting, Proxy, Store, Memory, Actor, OfProxy, OfStore, soft_of, is_dirty}
+use Rattle.sl_machine.specs.Records.{Held, boot_of, locked_in}
+use Rattle.sl_machine.specs.Memory.{Hold, Waiting, Proxy, Store, Actor, OfProxy, OfStore, soft_of, is_dirty}
 use Rattle.sl_machine.specs.World.{World}
 use Rattle.sl_machine.specs.Stores.{writes_of}
 use Rattle.sl_machine.specs.Openings.{Found, settled}
-use Rattle.sl_machine.specs.Runs.{Run, noted_of, actors_of}
+use Rattle.sl_machine.specs.Runs.{noted_of, actors_of}
 use Rattle.sl_machine.specs.Disks.{Disks, Sound, Scattered}
 use Rattle.sl_machine.specs.Records.{unfinished}
 

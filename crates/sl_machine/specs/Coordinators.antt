@@ -1,12 +1,8 @@
 -- What the coordinator does, a row for each case. Operations are decided once, and what follows goes on until each server
 -- has acknowledged it.
-use Rattle.std.specs.Prelude.{◌≡◌, ℕ, ◌+◌, ◌==◌, ◌<◌, List, [], ◌∷◌, ◌++◌, Option, Some, None, Bool, true, false, not, ◌&&◌, ◌||◌, nat_lt, nat_le, filter, length, if◌then◌else◌}
+use Rattle.std.specs.Prelude.{◌≡◌, ℕ, ◌==◌, ◌<◌, List, [], ◌∷◌, ◌++◌, Option, Some, None, Bool, true, false, ◌&&◌, ◌||◌, nat_lt, nat_le, filter, length, if◌then◌else◌}
 use Rattle.std.specs.List.{list_any, list_all}
-use Rattle.std.specs.FinMap as map
-use Rattle.sl_defs.specs.declared.note.Choice.{Choice}
-use Rattle.sl_records.specs.declared.request.Request.{Request}
 use Rattle.sl_records.specs.declared.started.Started.{Started}
-use Rattle.sl_records.specs.declared.coordinator.LogEntry.{LogEntry}
 use Rattle.sl_records.specs.declared.coordinator.LogEntry.TheVariants as log
 use Rattle.sl_frames.specs.Actors.{is_proxy}
 use Rattle.sl_frames.specs.declared.intent.What.{What}
@@ -19,9 +15,9 @@ use Rattle.sl_frames.specs.declared.body.Body.TheVariants as body
 use Rattle.sl_history.specs.Turns.{Remark}
 use Rattle.sl_history.specs.Turns as note
 use Rattle.sl_machine.specs.Records.{Record, OfLog, unfinished, decision_of, with_op, next_op}
-use Rattle.sl_machine.specs.Memory.{Site, Vote, Coord, Memory, Actor, OfCoord}
+use Rattle.sl_machine.specs.Memory.{Site, Vote, Coord, Actor, OfCoord}
 use Rattle.sl_machine.specs.World.{Scene, Task, Given, Ticks, Refuses, Proceeds, Segment, quiet, sends}
-use Rattle.sl_machine.specs.Verdicts.{Verdict, OldFence, Stray, Finished, Parks, IsKept, BelowLow, Answers, verdict, for_coordinator, seen, renewed, keeping}
+use Rattle.sl_machine.specs.Verdicts.{Verdict, OldFence, IsKept, Answers, verdict, for_coordinator, seen, renewed, keeping}
 use Rattle.sl_machine.specs.Directories.{request_of}
 
 -- ---- words on operations

@@ -1,28 +1,22 @@
 -- What a directory server does, a row for each case.
 use Rattle.std.proofs.Common.{zero, suc}
-use Rattle.std.specs.Prelude.{◌≡◌, ℕ, ◌+◌, ◌==◌, ◌<◌, List, [], ◌∷◌, ◌++◌, Option, Some, None, Bool, true, false, not, ◌&&◌, ◌||◌, nat_lt, nat_le, filter, map, replicate, length, if◌then◌else◌, option_map}
-use Rattle.std.specs.Option.{unwrap_or}
+use Rattle.std.specs.Prelude.{◌≡◌, ℕ, ◌+◌, ◌==◌, ◌<◌, List, [], ◌∷◌, Option, Some, None, Bool, true, false, not, ◌&&◌, nat_lt, filter, map, replicate, length, if◌then◌else◌, option_map}
 use Rattle.std.specs.FinMap as map
-use Rattle.sl_defs.specs.declared.setup.Setup.{Setup}
 use Rattle.sl_defs.specs.declared.setup.Time.{Time}
 use Rattle.sl_defs.specs.declared.note.Choice.{Choice}
 use Rattle.sl_types.specs.declared.reply.Reply.{Reply}
 use Rattle.sl_model.specs.declared.node.Node.{Node}
-use Rattle.sl_model.specs.declared.node.Listed.{Listed}
 use Rattle.sl_model.specs.Plan.{Sight, run}
 use Rattle.sl_model.specs.Volume.{below_on}
 use Rattle.sl_model.specs.Looking.{Outcome, line_size}
 use Rattle.sl_model.specs.Gathered.{Gathered, effect_from}
-use Rattle.sl_model.specs.Procedures.{plan, fault, is_reading}
+use Rattle.sl_model.specs.Procedures.{plan, fault}
 use Rattle.sl_route.specs.declared.class.Class.TheVariants as class
 use Rattle.sl_cells.specs.declared.cells.AttrCell.{AttrCell}
 use Rattle.sl_cells.specs.declared.cells.NameCell.{NameCell}
 use Rattle.sl_cells.specs.declared.keys.CellKey.{CellKey}
 use Rattle.sl_cells.specs.declared.changes.Change.{Change}
 use Rattle.sl_records.specs.declared.request.Request.{Request}
-use Rattle.sl_records.specs.declared.done.Did.{Did}
-use Rattle.sl_records.specs.declared.done.Mint.{Mint}
-use Rattle.sl_records.specs.declared.directory.DirRecord.{DirRecord}
 use Rattle.sl_records.specs.declared.directory.DirRecord.TheVariants as dir
 use Rattle.sl_frames.specs.declared.work.Work.{Work}
 use Rattle.sl_frames.specs.declared.frame.Frame.{Frame}
@@ -33,9 +27,9 @@ use Rattle.sl_history.specs.Turns as note
 use Rattle.sl_history.specs.Arrivals.{Asked, asked_in, datagram, answer_to, is_changing}
 use Rattle.sl_history.specs.Placing.{carrier}
 use Rattle.sl_machine.specs.Records.{Record, OfDir, Cells, cells_of, cell_at, locked_in, last_finished, next_counter, counter_end, fileid_at, has_root, root_cell}
-use Rattle.sl_machine.specs.Memory.{Site, Memory, Actor, OfSite}
+use Rattle.sl_machine.specs.Memory.{Site, Actor, OfSite}
 use Rattle.sl_machine.specs.World.{Scene, Task, Given, TakesUp, Founds, Segment, quiet, sends}
-use Rattle.sl_machine.specs.Verdicts.{Verdict, OldFence, Stray, Finished, Parks, IsKept, BelowLow, Answers, verdict, for_directory, seen, renewed, parked, taken_up, keeping, answering, is_locked_for, is_operating}
+use Rattle.sl_machine.specs.Verdicts.{Verdict, OldFence, Stray, Finished, Parks, IsKept, BelowLow, Answers, verdict, for_directory, seen, renewed, parked, taken_up, keeping, answering, is_locked_for}
 use Rattle.sl_machine.specs.Knowing.{node_of, entry_of, line_of, placed}
 use Rattle.sl_machine.specs.Packets.{outer_call, with_object, inner_object}
 use Rattle.sl_machine.specs.Parts.{cell_changes}

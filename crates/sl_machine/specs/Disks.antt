@@ -1,5 +1,5 @@
 -- What the disks of an ensemble hold of a volume, at rest and at every moment.
-use Rattle.std.specs.Prelude.{◌≡◌, ◌≢◌, ℕ, ◌+◌, ◌*◌, ◌/◌, ◌^◌, ◌==◌, ◌<◌, ◌≤◌, List, [], ◌∷◌, ◌++◌, Option, Some, None, Bool, true, false, not, ◌&&◌, ◌||◌, ◌⊎◌, Contains, if◌then◌else◌}
+use Rattle.std.specs.Prelude.{◌≡◌, ℕ, ◌/◌, ◌^◌, ◌==◌, ◌<◌, ◌≤◌, List, [], Option, Some, None, Bool, true, false, not, ◌&&◌, Contains, if◌then◌else◌}
 use Rattle.std.specs.Option.{unwrap_or}
 use Rattle.std.specs.FinMap as map
 use Rattle.sl_defs.specs.declared.setup.Setup.{Setup}
@@ -15,14 +15,12 @@ use Rattle.sl_frames.specs.declared.work.Work.{Work}
 use Rattle.sl_frames.specs.declared.work.Work.TheVariants as work
 use Rattle.sl_frames.specs.declared.intent.Part.{Part}
 use Rattle.sl_records.specs.declared.started.Started.{Started}
-use Rattle.sl_records.specs.declared.done.Did.{Did}
-use Rattle.sl_records.specs.declared.done.Mint.{Mint}
 use Rattle.sl_records.specs.declared.coordinator.LogEntry.TheVariants as log
 use Rattle.sl_records.specs.declared.directory.DirRecord.TheVariants as dir
 use Rattle.sl_records.specs.declared.data_server.DataRecord.TheVariants as store
 use Rattle.sl_history.specs.Placing.{carrier, byte_server}
 use Rattle.sl_history.specs.Wired.{cell_of, place_of}
-use Rattle.sl_machine.specs.Records.{Record, OfLog, OfDir, OfData, Held, Cells, Bytes, cells_of, bytes_of, cell_at, changes_of_held, all_changed, changed, held_worked, locked_in, has_root, root_cell, starts_of, unfinished, started_of, with_op, decision_of, next_op, next_counter, counter_of}
+use Rattle.sl_machine.specs.Records.{Record, OfLog, OfDir, OfData, Held, Cells, Bytes, cells_of, bytes_of, cell_at, changes_of_held, all_changed, changed, held_worked, locked_in, has_root, root_cell, starts_of, unfinished, started_of, decision_of, next_op, next_counter, counter_of}
 use Rattle.sl_machine.specs.Parts.{class_servers, data_servers}
 use Rattle.sl_cells.specs.declared.changes.Change.TheVariants as change
 

@@ -1,26 +1,21 @@
 -- What a call knows by what it was told, what it still needs, and its effect.
-use Rattle.std.specs.Prelude.{ℕ, ◌==◌, List, [], ◌∷◌, ◌++◌, Option, Some, None, Bool, true, false, not, ◌&&◌, ◌||◌, nat_le, nat_lt, nat_eq, replicate, filter, map, Result, Ok, Err, if◌then◌else◌, option_to_list}
+use Rattle.std.specs.Prelude.{ℕ, ◌==◌, List, [], ◌∷◌, ◌++◌, Option, Some, None, Bool, true, false, not, ◌&&◌, ◌||◌, nat_le, nat_lt, nat_eq, replicate, filter, map, if◌then◌else◌, option_to_list}
 use Rattle.std.specs.List.{list_any}
 use Rattle.std.specs.Cmp.Lexicographic.{pointwise}
 use Rattle.std.specs.Option.{unwrap_or}
-use Rattle.sl_defs.specs.declared.setup.Setup.{Setup}
 use Rattle.sl_defs.specs.declared.setup.Time.{Time}
 use Rattle.sl_defs.specs.declared.note.Choice.{Choice}
 use Rattle.sl_types.specs.declared.attributes.Fattr.{Fattr}
 use Rattle.sl_types.specs.declared.call.Call.{Call}
 use Rattle.sl_types.specs.declared.call.Call.TheVariants as call
-use Rattle.sl_types.specs.declared.kind.Status.{Status}
 use Rattle.sl_types.specs.declared.kind.Status.TheVariants as status
 use Rattle.sl_types.specs.declared.cred.Cred.{Cred}
-use Rattle.sl_types.specs.declared.handle.Handle.{Handle}
-use Rattle.sl_types.specs.declared.reply.Reply.{Reply}
 use Rattle.sl_model.specs.declared.node.Node.{Node}
 use Rattle.sl_model.specs.declared.node.Entry.{Entry}
 use Rattle.sl_model.specs.declared.node.Listed.{Listed}
 use Rattle.sl_model.specs.Plan.{Plan, Done, Stop, Look, See, Find, Climb, Names, Text, Bytes, Verifier, Want, Key, NodeKey, NameKey}
-use Rattle.sl_model.specs.Volume.{is_dir}
 use Rattle.sl_model.specs.Looking.{Outcome, found, handle_to, attributes}
-use Rattle.sl_model.specs.Gathered.{Gathered, Cell, AtNode, AtName, node_in, name_in, wanted, missing, effect_of}
+use Rattle.sl_model.specs.Gathered.{Gathered, Cell, AtNode, AtName, node_in, name_in, wanted, effect_of}
 use Rattle.sl_model.specs.Procedures.{plan, fault}
 use Rattle.sl_cells.specs.declared.cells.AttrCell.{AttrCell}
 use Rattle.sl_cells.specs.declared.cells.NameCell.{NameCell}

@@ -1,11 +1,9 @@
 -- What an actor's memory is at its opening, by the records that its disk has, and what is noted then.
-use Rattle.std.specs.Prelude.{◌≡◌, ℕ, ◌==◌, ◌<◌, ◌≤◌, List, [], ◌∷◌, Option, Some, None, Bool, true, false, ◌&&◌, nat_lt, nat_le, max, length, if◌then◌else◌, option_map}
+use Rattle.std.specs.Prelude.{◌≡◌, ℕ, ◌==◌, ◌<◌, ◌≤◌, List, [], ◌∷◌, Option, Some, None, Bool, true, false, ◌&&◌, nat_lt, max, length, if◌then◌else◌}
 use Rattle.std.specs.FinMap as map
-use Rattle.sl_defs.specs.declared.note.Choice.{Choice}
 use Rattle.sl_records.specs.declared.started.Started.{Started}
 use Rattle.sl_records.specs.declared.coordinator.LogEntry.TheVariants as log
 use Rattle.sl_records.specs.declared.done.Did.{Did}
-use Rattle.sl_records.specs.declared.done.Mint.{Mint}
 use Rattle.sl_records.specs.declared.directory.DirRecord.TheVariants as dir
 use Rattle.sl_frames.specs.declared.frame.Frame.{Frame}
 use Rattle.sl_frames.specs.declared.body.Body.{Body}

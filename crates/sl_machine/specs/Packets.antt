@@ -1,7 +1,6 @@
 -- Packets between the proxy and the servers: the client's own, edited in place.
-use Rattle.std.specs.Prelude.{ℕ, ◌+◌, ◌-◌, ◌*◌, ◌/◌, ◌%◌, ◌^◌, ◌==◌, List, [], ◌∷◌, ◌++◌, Option, Some, None, Bool, true, false, not, ◌&&◌, ◌||◌, nat_lt, length, take, replicate, Result, Ok, Err, if◌then◌else◌, option_and_then}
+use Rattle.std.specs.Prelude.{ℕ, ◌+◌, ◌-◌, ◌*◌, ◌%◌, ◌^◌, ◌==◌, List, Option, Some, None, Bool, false, not, ◌||◌, length, Result, Ok, Err, if◌then◌else◌, option_and_then}
 use Rattle.sl_defs.specs.Items.{u32_text}
-use Rattle.sl_defs.specs.declared.setup.Setup.{Setup}
 use Rattle.sl_defs.specs.declared.setup.Time.{Time}
 use Rattle.sl_types.specs.declared.attributes.Fattr.{Fattr}
 use Rattle.sl_types.specs.declared.kind.Kind.TheVariants as kind
@@ -23,7 +22,6 @@ use Rattle.sl_edit.specs.Fields.{first_handle, second_handle, with_first, with_s
 use Rattle.sl_policy.specs.Sites.{site_of}
 use Rattle.sl_route.specs.Places.{site_of_byte}
 use Rattle.sl_frames.specs.Actors.{is_directory}
-use Rattle.sl_model.specs.Looking.{wcc_of}
 
 -- ---- from the proxy to a server
 

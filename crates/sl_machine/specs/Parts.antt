@@ -1,33 +1,31 @@
 -- An effect as the servers' works: cells to change, by the servers that have them, and bytes to keep, put, cut and drop.
 use Rattle.std.proofs.Common.{zero, suc}
-use Rattle.std.specs.Prelude.{ℕ, ◌+◌, ◌-◌, ◌*◌, ◌/◌, ◌%◌, ◌==◌, List, [], ◌∷◌, ◌++◌, Option, Some, None, Bool, true, false, not, ◌&&◌, ◌||◌, nat_le, nat_lt, min, max, take, filter, map, length, if◌then◌else◌, option_to_list}
+use Rattle.std.specs.Prelude.{ℕ, ◌+◌, ◌-◌, ◌*◌, ◌/◌, ◌==◌, List, [], ◌∷◌, ◌++◌, Option, Some, None, Bool, true, false, ◌&&◌, ◌||◌, nat_lt, min, max, filter, if◌then◌else◌}
 use Rattle.std.specs.List.{list_any, list_all}
 use Rattle.std.specs.Option.{unwrap_or}
 use Rattle.std.specs.Ordering.{nat_cmp}
 use Rattle.std.specs.FinMap.{FinMap}
 use Rattle.std.specs.FinMap as map
 use Rattle.sl_defs.specs.declared.setup.Setup.{Setup}
-use Rattle.sl_types.specs.declared.attributes.Fattr.{Fattr}
 use Rattle.sl_types.specs.declared.call.Call.{Call}
 use Rattle.sl_types.specs.declared.call.Call.TheVariants as call
 use Rattle.sl_route.specs.declared.class.Class.{Class}
 use Rattle.sl_route.specs.declared.class.Class.TheVariants as class
 use Rattle.sl_route.specs.Places.{first_server, threshold, unit_size}
 use Rattle.sl_model.specs.declared.node.Node.{Node}
-use Rattle.sl_model.specs.declared.node.Entry.{Entry}
-use Rattle.sl_model.specs.Plan.{Key, NodeKey, NameKey}
+use Rattle.sl_model.specs.Plan.{Key}
 use Rattle.sl_model.specs.Volume.{PutNode, TakeNode, PutName, TakeName, PutText, PutBytes, AddWrite, is_dir, is_reg}
 use Rattle.sl_model.specs.Volume as volume
 use Rattle.sl_model.specs.Looking.{attributes}
 use Rattle.sl_model.specs.Gathered.{Gathered}
 use Rattle.sl_cells.specs.declared.cells.AttrCell.{AttrCell}
-use Rattle.sl_cells.specs.declared.cells.NameCell.{NameCell}
 use Rattle.sl_cells.specs.declared.changes.Change.{Change}
 use Rattle.sl_cells.specs.declared.changes.Change.TheVariants as change
 use Rattle.sl_frames.specs.declared.work.Work.{Work}
 use Rattle.sl_frames.specs.declared.work.Work.TheVariants as work
 use Rattle.sl_frames.specs.declared.intent.Part.{Part}
-use Rattle.sl_history.specs.Placing.{servers, carrier, object_server, name_server, byte_server}
+use Rattle.sl_history.specs.Wired.{name_cell}
+use Rattle.sl_history.specs.Placing.{servers, object_server, name_server, key_server, byte_server}
 use Rattle.sl_machine.specs.Memory.{Dirty}
 use Rattle.sl_machine.specs.Knowing.{node_at}
 
@@ -41,9 +39,6 @@ text_made (c ∷ cs) f = text_made cs f
 
 abbrev pub object_cell : Node → List ℕ → AttrCell
 object_cell n text = record { attributes = attributes n; parent = n.parent; entries = n.entries; made = n.made; verifier = n.verifier; link = text }
-
-abbrev pub name_cell : ℕ → List ℕ → Entry → NameCell
-name_cell d name e = record { dir = d; name = name; fileid = e.fileid; kind = e.kind; cookie = e.cookie }
 
 abbrev pub cell_change : Gathered → List volume.Change → volume.Change → List Change
 cell_change g all (PutNode f n) = change.PutAttr (object_cell n (unwrap_or (text_made all f) (g.text f))) ∷ []
@@ -197,10 +192,6 @@ unfoldable pub flush_parts : Setup → FinMap nat_cmp ℕ → ℕ → Dirty → 
 flush_parts s boots f d = part (object_server s f) 0 (work.Change (change.SetFattr d.attributes ∷ [])) ∷ keep_parts f boots d.servers
 
 -- ---- one server alone
-
-abbrev pub key_server : Setup → Key → ℕ
-key_server s (NodeKey f) = object_server s f
-key_server s (NameKey d name) = name_server s d name
 
 -- all cells that were asked for or change are with this server
 abbrev pub all_with : Setup → ℕ → List Key → List Change → Bool

@@ -1,10 +1,9 @@
 -- What the proxy does, a row for each case. It keeps no record but of its starts, and what it holds may be lost.
-use Rattle.std.specs.Prelude.{◌≡◌, ℕ, ◌+◌, ◌-◌, ◌^◌, ◌==◌, ◌<◌, List, [], ◌∷◌, ◌++◌, Option, Some, None, Bool, true, false, not, ◌&&◌, ◌||◌, nat_lt, nat_le, filter, length, is_some, if◌then◌else◌, Result, Ok, Err}
+use Rattle.std.specs.Prelude.{◌≡◌, ℕ, ◌+◌, ◌^◌, ◌==◌, ◌<◌, List, [], ◌∷◌, ◌++◌, Option, Some, None, Bool, true, false, not, ◌&&◌, ◌||◌, nat_le, length, is_some, if◌then◌else◌, Ok}
 use Rattle.std.specs.Option.{unwrap_or}
 use Rattle.std.specs.Ordering.{nat_cmp}
 use Rattle.std.specs.FinMap.{FinMap}
 use Rattle.std.specs.FinMap as map
-use Rattle.sl_defs.specs.declared.setup.Setup.{Setup}
 use Rattle.sl_defs.specs.declared.setup.Time.{Time}
 use Rattle.sl_defs.specs.declared.note.Choice.{Choice}
 use Rattle.sl_types.specs.declared.attributes.Fattr.{Fattr}
@@ -18,15 +17,13 @@ use Rattle.sl_model.specs.Looking.{Outcome}
 use Rattle.sl_model.specs.Plan.{Key}
 use Rattle.sl_cells.specs.declared.keys.CellKey.{CellKey}
 use Rattle.sl_cells.specs.declared.keys.CellKey.TheVariants as key
-use Rattle.sl_records.specs.declared.proxy.ProxyRecord.{ProxyRecord}
 use Rattle.sl_records.specs.declared.proxy.ProxyRecord.TheVariants as start
-use Rattle.sl_frames.specs.Actors.{is_data, is_directory}
+use Rattle.sl_frames.specs.Actors.{is_data}
 use Rattle.sl_frames.specs.declared.found.FoundCell.{FoundCell}
 use Rattle.sl_frames.specs.declared.found.FoundCell.TheVariants as found
 use Rattle.sl_frames.specs.declared.intent.What.{What}
 use Rattle.sl_frames.specs.declared.intent.What.TheVariants as what
 use Rattle.sl_frames.specs.declared.intent.Part.{Part}
-use Rattle.sl_frames.specs.declared.intent.Intent.{Intent}
 use Rattle.sl_frames.specs.declared.frame.Frame.{Frame}
 use Rattle.sl_frames.specs.declared.body.Body.{Body}
 use Rattle.sl_frames.specs.declared.body.Body.TheVariants as body
@@ -35,14 +32,15 @@ use Rattle.sl_history.specs.Turns as note
 use Rattle.sl_history.specs.Arrivals.{Asked, Datagram, IsJunk, IsAnswered, IsAsked, datagram, answer_to, is_changing, most_waiting}
 use Rattle.sl_history.specs.Legal.{no_choice}
 use Rattle.sl_history.specs.Wired.{fits}
-use Rattle.sl_machine.specs.Records.{Record, OfProxy, starts_of, first_fence, is_last_epoch}
+use Rattle.sl_history.specs.Remembering.{attributes_in}
+use Rattle.sl_machine.specs.Records.{OfProxy, starts_of, first_fence, is_last_epoch}
 use Rattle.sl_machine.specs.Memory.{Hold, ServerNames, Told, Request, Waiting, Soft, Proxy, Memory, Actor, OfProxy, nothing_told, no_soft, soft_of, is_dirty, learnt, touched, gone, flushed, written, are_free, low_of, with_tag}
 use Rattle.sl_machine.specs.Memory as memory
 use Rattle.sl_machine.specs.World.{Scene, Task, Given, Arrives, Goes, Wakes, Ticks, Segment, quiet, sends}
 use Rattle.sl_machine.specs.Knowing.{effect, known, cell_key}
 use Rattle.sl_machine.specs.Calls.{sought}
 use Rattle.sl_machine.specs.Parts.{flush_parts}
-use Rattle.sl_machine.specs.Wants.{Want, Lock, Recall, FlushFirst, AskFor, ListFrom, MintAt, ForwardLook, ForwardRead, ForwardWrite, ForwardEffect, Operate, Answer, Ending, Mark, AtAnswer, AtOnce, Knowing, knowing, effect_with, wants, most_dirty}
+use Rattle.sl_machine.specs.Wants.{Want, Lock, Recall, FlushFirst, AskFor, ListFrom, MintAt, ForwardLook, ForwardRead, ForwardWrite, ForwardEffect, Operate, Answer, Ending, Mark, AtAnswer, AtOnce, knowing, effect_with, wants, most_dirty}
 use Rattle.sl_machine.specs.Packets.{forwarded, forwarded_read, forwarded_write, with_object, outer_object, reply_in}
 use Rattle.sl_history.specs.Placing.{carrier}
 use Rattle.sl_route.specs.declared.class.Class.TheVariants as class
@@ -139,13 +137,6 @@ abbrev pub ends : Proxy → ℕ → Soft → List Remark → Segment
 ends p n soft rs = notes (record (without_call n p) { soft = soft }) rs (Wakes ∷ [])
 
 -- a reply that gives a regular file's attributes teaches them
-abbrev pub attributes_in : Reply → Option Fattr
-attributes_in (reply.Getattr (Ok a)) = Some a
-attributes_in (reply.Lookup (Ok l)) = l.attributes
-attributes_in (reply.Access (Ok c)) = c.attributes
-attributes_in (reply.Read (Ok r)) = r.attributes
-attributes_in other = None
-
 abbrev pub learns_from : Option Fattr → Soft → Soft
 learns_from None s = s
 learns_from (Some a) s = if is_reg a.kind then learnt a s else s
@@ -334,10 +325,6 @@ ends_operation x p n w at (what.Call chosen kept) e =
     ends p n (forgets w.held p.soft) (note.Replied n (done_event x n) (answer_to w.asked (operated p w at (record { fileid = chosen; kept = kept })).answer) ∷ [])
 
 -- ---- packets
-
-abbrev pub file_of : Option Fattr → ℕ
-file_of None = 0
-file_of (Some a) = a.fileid
 
 -- a reply's attributes are the proxy's own, where it has them
 abbrev pub own_or : Soft → Option Fattr → Option Fattr

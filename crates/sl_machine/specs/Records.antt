@@ -1,15 +1,13 @@
 -- What the records on the actors' disks stand for. Records are listed the newest first.
-use Rattle.std.specs.Prelude.{◌≡◌, ℕ, ◌+◌, ◌-◌, ◌*◌, ◌%◌, ◌^◌, ◌==◌, ◌≤◌, List, [], ◌∷◌, ◌++◌, Option, Some, None, Bool, true, false, not, ◌&&◌, ◌||◌, nat_le, nat_lt, max, if◌then◌else◌}
+use Rattle.std.specs.Prelude.{ℕ, ◌+◌, ◌-◌, ◌*◌, ◌%◌, ◌^◌, ◌==◌, List, [], ◌∷◌, ◌++◌, Option, Some, None, Bool, true, false, ◌||◌, max, if◌then◌else◌}
 use Rattle.std.specs.Option.{unwrap_or}
 use Rattle.std.specs.Ordering.{nat_cmp}
 use Rattle.std.specs.FinMap.{FinMap}
 use Rattle.std.specs.FinMap as map
-use Rattle.sl_defs.specs.declared.setup.Setup.{Setup}
-use Rattle.sl_defs.specs.declared.setup.Time.{Time}
 use Rattle.sl_types.specs.declared.attributes.Fattr.{Fattr}
 use Rattle.sl_types.specs.declared.writes.Write.{Write}
 use Rattle.sl_model.specs.Volume.{name_cmp, place_cmp, put_bytes, cut_at}
-use Rattle.sl_model.specs.Perform.{root_mode, new_root}
+use Rattle.sl_model.specs.Perform.{new_root}
 use Rattle.sl_model.specs.Looking.{attributes}
 use Rattle.sl_policy.specs.Sites.{site_of}
 use Rattle.sl_cells.specs.declared.cells.AttrCell.{AttrCell}
@@ -27,8 +25,6 @@ use Rattle.sl_records.specs.declared.proxy.ProxyRecord.TheVariants as proxy
 use Rattle.sl_records.specs.declared.started.Started.{Started}
 use Rattle.sl_records.specs.declared.coordinator.LogEntry.{LogEntry}
 use Rattle.sl_records.specs.declared.coordinator.LogEntry.TheVariants as log
-use Rattle.sl_records.specs.declared.done.Did.{Did}
-use Rattle.sl_records.specs.declared.done.Mint.{Mint}
 use Rattle.sl_records.specs.declared.directory.DirRecord.{DirRecord}
 use Rattle.sl_records.specs.declared.directory.DirRecord.TheVariants as dir
 use Rattle.sl_records.specs.declared.data_server.DataRecord.{DataRecord}

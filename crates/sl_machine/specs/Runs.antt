@@ -1,13 +1,9 @@
 -- Events, and runs: what a turn does to the world, and which histories follow.
-use Rattle.std.proofs.Common.{zero, suc}
-use Rattle.std.specs.Prelude.{◌≡◌, ℕ, ◌+◌, ◌^◌, ◌==◌, ◌<◌, List, [], ◌∷◌, ◌++◌, Option, Some, None, Bool, true, false, not, length, ◌⊎◌, IsSome}
+use Rattle.std.specs.Prelude.{◌≡◌, ℕ, List, [], ◌∷◌, ◌++◌, Option, Some, None, Bool, true, false, length, ◌⊎◌}
 use Rattle.std.specs.Option.{unwrap_or}
-use Rattle.std.specs.Ordering.{nat_cmp}
-use Rattle.std.specs.FinMap.{FinMap}
 use Rattle.std.specs.FinMap as map
 use Rattle.sl_defs.specs.Histories.{Happening, Opens, Reaches, Happens}
 use Rattle.sl_defs.specs.declared.setup.Setup.{Setup}
-use Rattle.sl_defs.specs.declared.setup.Time.{Time}
 use Rattle.sl_defs.specs.declared.event.Event.{Event}
 use Rattle.sl_defs.specs.declared.event.Event.TheVariants as event
 use Rattle.sl_route.specs.declared.class.Class.TheVariants as class
@@ -16,7 +12,7 @@ use Rattle.sl_frames.specs.declared.frame.Frame.{Frame}
 use Rattle.sl_history.specs.Turns.{Remark, Turn, History}
 use Rattle.sl_history.specs.Turns as note
 use Rattle.sl_history.specs.Legal.{NotAfter}
-use Rattle.sl_machine.specs.Records.{Record, is_last_epoch, starts_of}
+use Rattle.sl_machine.specs.Records.{Record, is_last_epoch}
 use Rattle.sl_machine.specs.Memory.{Site, Store, Coord, Proxy, Memory, Actor, OfProxy, OfCoord, OfSite, OfStore}
 use Rattle.sl_machine.specs.World.{World, Flying, Task, Given, Arrives, Ticks, Opening, Founds, Scene, scene, Segment, Told, nothing, quiet, played, told, with_actor, cut_actor, stopped_actor, begun, landed}
 use Rattle.sl_machine.specs.Parts.{class_servers}

@@ -1,6 +1,5 @@
 -- What disks show of an actor's records: the bytes that a read gives, and those that a stop may leave.
 use Rattle.std.specs.Prelude.{◌≡◌, ℕ, List, [], ◌∷◌, ◌++◌, Option, Some, None, ◌⊎◌, IsSome}
-use Rattle.std.specs.Ordering.{nat_cmp}
 use Rattle.std.specs.FinMap as map
 use Rattle.sl_defs.specs.declared.setup.Setup.{Setup}
 use Rattle.sl_journal.specs.Format.{Stands, head_text}

@@ -1,23 +1,21 @@
 -- What a data server does, a row for each case: a small-file server, or a storage node.
 use Rattle.std.proofs.Common.{zero, suc}
-use Rattle.std.specs.Prelude.{◌≡◌, ℕ, ◌+◌, ◌-◌, ◌==◌, ◌<◌, List, [], ◌∷◌, ◌++◌, Option, Some, None, Bool, true, false, not, ◌&&◌, ◌||◌, nat_lt, nat_le, take, filter, length, slice_index, if◌then◌else◌, Result, Ok, Err}
+use Rattle.std.specs.Prelude.{◌≡◌, ℕ, ◌+◌, ◌-◌, ◌==◌, ◌<◌, List, [], ◌∷◌, ◌++◌, Option, Some, None, Bool, true, false, not, ◌&&◌, nat_lt, nat_le, take, filter, length, slice_index, if◌then◌else◌}
 use Rattle.std.specs.Option.{unwrap_or}
 use Rattle.std.specs.FinMap as map
 use Rattle.sl_types.specs.declared.call.Call.{Call}
 use Rattle.sl_types.specs.declared.call.Call.TheVariants as call
-use Rattle.sl_types.specs.declared.handle.Handle.{Handle}
 use Rattle.sl_types.specs.Handles.{handle_of}
 use Rattle.sl_types.specs.declared.writes.Write.{Write}
-use Rattle.sl_records.specs.declared.data_server.DataRecord.{DataRecord}
 use Rattle.sl_records.specs.declared.data_server.DataRecord.TheVariants as store
 use Rattle.sl_frames.specs.declared.work.Work.{Work}
 use Rattle.sl_frames.specs.declared.work.Work.TheVariants as work
 use Rattle.sl_frames.specs.declared.frame.Frame.{Frame}
 use Rattle.sl_frames.specs.declared.body.Body.{Body}
 use Rattle.sl_frames.specs.declared.body.Body.TheVariants as body
-use Rattle.sl_history.specs.Arrivals.{Asked, asked_in, datagram, answer_to}
-use Rattle.sl_machine.specs.Records.{Record, OfData, Bytes, Held, bytes_of, boot_of, locked_in, last_finished}
-use Rattle.sl_machine.specs.Memory.{Site, Store, Buffered, Memory, Actor, OfStore}
+use Rattle.sl_history.specs.Arrivals.{Asked, asked_in, datagram, answer_to, fileid_of}
+use Rattle.sl_machine.specs.Records.{OfData, Bytes, Held, bytes_of, boot_of, locked_in, last_finished}
+use Rattle.sl_machine.specs.Memory.{Store, Buffered, Actor, OfStore}
 use Rattle.sl_machine.specs.World.{Scene, Task, Given, TakesUp, Segment, quiet, sends}
 use Rattle.sl_machine.specs.Verdicts.{Verdict, OldFence, Stray, Finished, Parks, IsKept, BelowLow, Answers, verdict, for_store, seen, renewed, parked, taken_up, keeping, answering, is_locked_for}
 use Rattle.sl_machine.specs.Directories.{take_ups}
@@ -71,10 +69,6 @@ answers x a m f b = sends (OfStore m) (answering x.actor (own_boot a) f b) []
 abbrev pub again_acknowledged : Scene → Actor → Store → Frame → Body → Segment
 again_acknowledged x a m f (body.Lock w) = still m
 again_acknowledged x a m f other = answers x a m f body.Ack
-
-abbrev pub fileid_of : Option Handle → ℕ
-fileid_of None = 0
-fileid_of (Some h) = h.fileid
 
 abbrev pub packet : Scene → Actor → Store → Frame → List ℕ → Segment
 packet x a m f bytes = answers x a m f (body.Packet bytes)

@@ -5,6 +5,7 @@ use Rattle.std.specs.FinMap as map
 use Rattle.sl_frames.specs.declared.frame.Frame.{Frame}
 use Rattle.sl_frames.specs.declared.body.Body.{Body}
 use Rattle.sl_frames.specs.declared.body.Body.TheVariants as body
+use Rattle.sl_history.specs.Licensed.{is_request}
 use Rattle.sl_history.specs.Arrivals.{asked_in, datagram, Asked, is_changing}
 use Rattle.sl_machine.specs.Records.{Held}
 use Rattle.sl_machine.specs.Memory.{Site}
@@ -39,14 +40,6 @@ abbrev pub seen : Frame → Site → Site
 seen f s = if f.fence == s.fence then lowered f.low s else s
 
 -- ---- kinds
-
-abbrev pub is_request : Body → Bool
-is_request (body.Forward chosen packet) = true
-is_request (body.Ask keys) = true
-is_request (body.List dir cookie limit) = true
-is_request (body.Mint site) = true
-is_request (body.Intent i) = true
-is_request other = false
 
 -- votes of servers are taken of any fence
 abbrev pub is_vote : Body → Bool

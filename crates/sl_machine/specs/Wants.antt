@@ -1,11 +1,9 @@
 -- What a waiting call wants next, by what it holds and was told. It has no stages: each case asks only what is still
 -- missing.
-use Rattle.std.specs.Prelude.{ℕ, ◌+◌, ◌-◌, ◌==◌, List, [], ◌∷◌, ◌++◌, Option, Some, None, Bool, true, false, not, ◌&&◌, ◌||◌, nat_le, nat_lt, length, take, filter, map, Result, Ok, Err, if◌then◌else◌, option_to_list}
+use Rattle.std.specs.Prelude.{ℕ, ◌-◌, ◌==◌, List, [], ◌∷◌, Option, Some, None, Bool, true, false, not, ◌&&◌, ◌||◌, nat_le, nat_lt, length, take, filter, Ok, if◌then◌else◌}
 use Rattle.std.specs.Bool.{beq}
 use Rattle.std.specs.List.{list_any}
 use Rattle.std.specs.Option.{unwrap_or}
-use Rattle.std.specs.Ordering.{nat_cmp}
-use Rattle.std.specs.FinMap.{FinMap}
 use Rattle.std.specs.FinMap as map
 use Rattle.sl_defs.specs.declared.setup.Setup.{Setup}
 use Rattle.sl_defs.specs.declared.setup.Policy.{Policy}
@@ -23,12 +21,11 @@ use Rattle.sl_types.specs.declared.reply.Reply.{Reply}
 use Rattle.sl_types.specs.declared.reply.Reply.TheVariants as reply
 use Rattle.sl_route.specs.declared.class.Class.TheVariants as class
 use Rattle.sl_policy.specs.Sites.{object_site}
-use Rattle.sl_model.specs.declared.node.Node.{Node}
 use Rattle.sl_model.specs.declared.node.Entry.{Entry}
 use Rattle.sl_model.specs.Plan.{Key, NodeKey, NameKey}
 use Rattle.sl_model.specs.Volume.{is_dir, is_reg, PutName}
 use Rattle.sl_model.specs.Volume as volume
-use Rattle.sl_model.specs.Looking.{Outcome, up_to_unit}
+use Rattle.sl_model.specs.Looking.{Outcome}
 use Rattle.sl_model.specs.Changing.{is_unstable, writable}
 use Rattle.sl_model.specs.Gathered.{Gathered, missing, has_cell}
 use Rattle.sl_model.specs.Procedures.{fault}
@@ -37,15 +34,13 @@ use Rattle.sl_frames.specs.declared.found.FoundCell.{FoundCell}
 use Rattle.sl_cells.specs.declared.keys.CellKey.{CellKey}
 use Rattle.sl_cells.specs.declared.changes.Change.{Change}
 use Rattle.sl_frames.specs.declared.intent.Part.{Part}
-use Rattle.sl_frames.specs.declared.intent.What.{What}
-use Rattle.sl_frames.specs.declared.intent.What.TheVariants as what
 use Rattle.sl_history.specs.Arrivals.{is_changing}
 use Rattle.sl_history.specs.Legal.{no_choice}
-use Rattle.sl_history.specs.Placing.{carrier, object_server, byte_server}
-use Rattle.sl_machine.specs.Memory.{LockKey, Hold, Told, Waiting, Proxy, Soft, Dirty, soft_of, is_dirty, unstable_writes, is_held, lacking}
-use Rattle.sl_machine.specs.Calls.{handles, refused, Place, sought, tree, takes_tree, hold, holds_alone, directories, objects, with_hold, both, plain}
-use Rattle.sl_machine.specs.Knowing.{known, needed, entries_at, entry_at, first_entry, each_once, cell_key, key_of, effect, is_lookup}
-use Rattle.sl_machine.specs.Parts.{cell_changes, going, Going, parts_of, write_parts, all_with, key_server, change_server, class_servers, is_write}
+use Rattle.sl_history.specs.Placing.{object_server, key_server, byte_server}
+use Rattle.sl_machine.specs.Memory.{Hold, Told, Waiting, Proxy, Soft, soft_of, is_dirty, unstable_writes, lacking}
+use Rattle.sl_machine.specs.Calls.{handles, refused, Place, sought, tree, takes_tree, hold, directories, objects, with_hold, both, plain}
+use Rattle.sl_machine.specs.Knowing.{known, needed, entries_at, entry_at, each_once, key_of, effect}
+use Rattle.sl_machine.specs.Parts.{cell_changes, going, Going, parts_of, write_parts, all_with, change_server, class_servers, is_write}
 
 -- where the event of a reply lies: that of the answer that was just given, or this one
 pub data Mark : Type 0 where
