@@ -14,7 +14,7 @@ use Rattle.sl_history.specs.Turns as note
 use Rattle.sl_history.specs.Legal.{NotAfter}
 use Rattle.sl_machine.specs.Records.{Record, is_last_epoch}
 use Rattle.sl_machine.specs.Memory.{Site, Store, Coord, Proxy, Memory, Actor, OfProxy, OfCoord, OfSite, OfStore}
-use Rattle.sl_machine.specs.World.{World, Flying, Task, Given, Arrives, Ticks, Opening, Founds, Scene, scene, Segment, Told, nothing, quiet, played, told, with_actor, cut_actor, stopped_actor, begun, landed}
+use Rattle.sl_machine.specs.World.{World, Flying, Task, Given, Arrives, Ticks, Opening, Founds, Scene, scene, Segment, Told, nothing, quiet, played, told, with_actor, cut_actor, stopped_actor, begun, landed, done_after}
 use Rattle.sl_machine.specs.Parts.{class_servers}
 use Rattle.sl_machine.specs.Directories.{DirectoryRow}
 use Rattle.sl_machine.specs.Stores.{StoreRow, Boots}
@@ -136,7 +136,11 @@ noted_of w i = unwrap_or (map.get w.noted i) 0
 abbrev pub with_notes : List Remark → Told → Told
 with_notes rs n = record n { notes = n.notes ++ rs }
 
--- The disk is read, and the actor begins with the records that were found.
+-- an effect that is noted is done in this event
+abbrev pub done_by : List Remark → World → World
+done_by rs w = record w { done_in = done_after rs w.event w.done_in }
+
+-- The disk is read, and the actor begins with the records that were found. What the last one says is noted, where it wasn't.
 pub record Begins (i : ℕ) (w : World) (n : Told) (w' : World) (n' : Told) : Type 0 where
   pub actor : Actor
   pub records : List Record
@@ -144,7 +148,7 @@ pub record Begins (i : ℕ) (w : World) (n : Told) (w' : World) (n' : Told) : Ty
   pub down : actor.memory ≡ None
   pub found : Found actor records
   pub steps :
-      Steps i (Opening ∷ []) (with_actor w i (opened_actor actor records)) (with_notes (settled (noted_of w i) records) n) w' n'
+      Steps i (Opening ∷ []) (done_by (settled (noted_of w i) records) (with_actor w i (opened_actor actor records))) (with_notes (settled (noted_of w i) records) n) w' n'
 
 -- The actor stays down: a call of its disk failed before anything was appended, or the proxy's starts are spent.
 pub record FailsToOpen (i : ℕ) (w : World) (n : Told) (w' : World) (n' : Told) : Type 0 where

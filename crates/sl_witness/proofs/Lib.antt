@@ -1,0 +1,13 @@
+pub mod Maps
+pub mod Openings
+pub mod Welcomes
+pub mod Lost
+pub mod Restarts
+pub mod Answered
+pub mod Packets
+pub mod Forwards
+pub mod Looks
+pub mod Changes
+pub mod Does
+pub mod Cuts
+pub mod Anew
