@@ -8,3 +8,5 @@ mod Fills
 mod Wholes
 mod Arrays
 mod Numbers
+mod Parts
+mod Options

@@ -12,7 +12,11 @@ use Rattle.sl_edit.specs.Views.{ReplyPacket}
 abbrev pub run_of : ℕ → ℕ → Span
 run_of from size = record { from = from; to = from + size }
 
--- the packet has in this interval what was left in the array
+-- the bytes from a place up to another
+abbrev pub up_to : ℕ → ℕ → Span
+up_to from to = record { from = from; to = to }
+
+-- the packet has in this interval what was left in the array, or in the part
 abbrev pub LendsBytes : MutBor (List ℕ) → Span → MutBor (List ℕ) → Fml
 LendsBytes packet span array = Lends (Array u8 0) (Array u8 0) packet array (spliced packet.now span)
 
@@ -20,7 +24,7 @@ LendsBytes packet span array = Lends (Array u8 0) (Array u8 0) packet array (spl
 abbrev pub with_packet : MutBor (List ℕ) → List ℕ → MutBor (List ℕ)
 with_packet view packet = record view { now = packet }
 
--- ---- a view of a call: its packet is what was left of it, and it has in this interval what was left in the array, or
+-- ---- a view of a call: its packet is what was left of it, and it has in this interval what was left in the part, or
 -- in the slot, if there was one; else it is as it was
 
 module _ (view : MutBor (MutBor (List ℕ))) where
@@ -28,7 +32,10 @@ module _ (view : MutBor (MutBor (List ℕ))) where
   CallLends packet = Lends (call.the_row (record { mir = named 1; lft = [] })) (Array u8 0) view packet (with_packet view.now)
 
   abbrev pub CallLendsBytes : Span → MutBor (List ℕ) → Fml
-  CallLendsBytes span array = Lends (call.the_row (record { mir = named 1; lft = [] })) (Array u8 0) view array (λ bytes. with_packet view.now (spliced view.now.now span bytes))
+  CallLendsBytes span part = Lends (call.the_row (record { mir = named 1; lft = [] })) (Array u8 0) view part (λ bytes. with_packet view.now (spliced view.now.now span bytes))
+
+  abbrev pub CallLendsField : Option Span → MutBor (List ℕ) → Fml
+  CallLendsField span slot = Lends (call.the_row (record { mir = named 1; lft = [] })) (Array u8 0) view slot (λ bytes. with_packet view.now (refilled view.now.now span bytes))
 
   abbrev pub CallLendsSlot : Option Span → Option (MutBor (List ℕ)) → Fml
   CallLendsSlot span slot = LendsIf (call.the_row (record { mir = named 1; lft = [] })) (Array u8 0) view slot (λ bytes. with_packet view.now (refilled view.now.now span bytes)) view.now

@@ -1,22 +1,17 @@
-ghost use Rattle.std.specs.Prelude.{◌≡◌, ◌↔◌, ◌+◌, ◌≤◌, drop, is_some, length, take, true, IfSome, IsSome};
+ghost use Rattle.std.specs.Prelude.{◌≡◌, ◌↔◌, ◌-◌, ◌≤◌, drop, is_some, length, take, Some, IfSome, IsSome};
 ghost use Rattle.std.specs.Borrow.{sem};
 ghost use Rattle.sl_defs.specs.Items.{u32_text};
-ghost use Rattle.sl_edit.specs.Edits.{Edited, IsWithin, bytes_if};
-ghost use Rattle.sl_edit.specs.Lending.{CallLends, CallLendsBytes, CallLendsSlot, run_of};
+ghost use Rattle.sl_edit.specs.Edits.{Edited, IsOrdered, bytes_if};
+ghost use Rattle.sl_edit.specs.Lending.{CallLends, CallLendsBytes, CallLendsField, CallLendsSlot, up_to};
 ghost use Rattle.sl_edit.specs.Packets.{IsCall};
 ghost use Rattle.sl_edit.specs.Cuts.{IsCut};
 ghost use Rattle.sl_edit.specs.Spans as spans;
 
-use crate::call_edits::{cut_content, edit_count, edit_handle};
-use crate::call_spans::{args_in, handle_span};
-use crate::lending::array_at;
-use crate::span::{Span, edit_xid, show, sized};
-use sl_calls::has_args;
-use sl_xdr::Short;
+use crate::call_spans::handle_span;
+use crate::lending::part;
+use crate::packet;
+use crate::span::Span;
 use std::marker::Model;
-
-/// How many bytes a handle among this volume's clients has.
-const HANDLE: usize = 32;
 
 /// A call in a packet, whose fields are edited in place. Contracts see it as the reference to its packet.
 #[derive(Drop)]
@@ -33,16 +28,6 @@ impl<'a> Model for CallView<'a> {
     ghost view = { λ v. v.packet };
 }
 
-/// Whether the packet is a call that its header doesn't refuse, with readable arguments.
-fn is_call(packet: &[u8]) -> bool
-    ensures { (result ≡ true) ↔ IsCall packet.now }
-{
-    match args_in(packet) {
-        Ok((procedure, args)) => has_args(procedure, args),
-        Err(Short) => false,
-    }
-}
-
 impl<'a> CallView<'a> {
     /// The call in the packet. None exactly where the packet is no call of NFS version 3 with readable arguments.
     pub fn new(packet: &'a mut [u8]) -> Option<CallView<'a>>
@@ -50,7 +35,7 @@ impl<'a> CallView<'a> {
         ensures kept { IfSome result (λ view. view.now ≡ packet.old) }
         ensures variant { IsSome result ↔ IsCall packet.old }
     {
-        if is_call(packet) {
+        if packet::is_call(packet) {
             Some(CallView { packet })
         } else {
             None
@@ -62,7 +47,7 @@ impl<'a> CallView<'a> {
         ensures variant { is_some result ≡ is_some (spans.handle_span i self.now.now) }
         ensures value { IfSome result (λ bytes. bytes.now ≡ bytes_if self.now.now (spans.handle_span i self.now.now)) }
     {
-        show(self.packet, handle_span(i, self.packet))
+        packet::handle(self.packet, i)
     }
 
     /// The packet, for writing.
@@ -73,44 +58,71 @@ impl<'a> CallView<'a> {
         self.packet
     }
 
-    /// N of its bytes from a place on, for writing.
-    fn array_at<const N: usize>(&mut self, from: usize) -> &mut [u8; N]
-        requires { from + N ≤ length self.old.now }
-        ensures* writes_back { sem 𝓛 (CallLendsBytes self.entry (run_of from N) result) }
-        ensures value { result.now ≡ take N (drop from self.old.now) }
+    /// Its bytes from a place up to another, for writing.
+    fn part(&mut self, from: usize, to: usize) -> &mut [u8]
+        requires ordered { from ≤ to }
+        requires inside { to ≤ length self.old.now }
+        ensures* writes_back { sem 𝓛 (CallLendsBytes self.entry (up_to from to) result) }
+        ensures value { result.now ≡ take (to - from) (drop from self.old.now) }
     {
-        array_at(self.packet_mut(), from)
+        part(self.packet_mut(), from, to)
     }
 
-    fn lend(&mut self, span: Option<Span>) -> Option<&mut [u8; HANDLE]>
-        requires { IfSome span (IsWithin self.old.now 32) }
-        ensures* writes_back { sem 𝓛 (CallLendsSlot self.entry span result) }
-        ensures variant { is_some result ≡ is_some span }
-        ensures value { IfSome result (λ bytes. bytes.now ≡ bytes_if self.old.now span) }
+    /// Where the bytes of the i-th handle stand.
+    fn handle_place(&self, i: u8) -> Span
+        requires present { IsSome (spans.handle_span i self.now.now) }
+        ensures exact { spans.handle_span i self.now.now ≡ Some result }
+        ensures inside { IsOrdered self.now.now result }
     {
-        match span {
-            Some(span) => Some(self.array_at(span.from)),
-            None => None,
+        match handle_span(i, self.packet) {
+            Some(span) => span,
+            None => unreachable!(),
         }
     }
 
-    /// The bytes of the i-th handle, if it has 32.
-    fn slot_span(&self, i: u8) -> Option<Span>
-        ensures exact { result ≡ spans.sized 32 (spans.handle_span i self.now.now) }
-        ensures inside { IfSome result (IsWithin self.now.now 32) }
+    /// The bytes of the i-th handle, from 0, where there is one, for writing. Once the borrow ends, the packet has there
+    /// what was left in the slot, and every other byte is as it was.
+    ///
+    /// The proof of a caller doesn't follow what is written through an `Option` of bytes, as `handle_mut` gives. A caller
+    /// that has to know what the packet is then asks `handle` whether there is a handle, and takes this.
+    pub fn handle_slot(&mut self, i: u8) -> &mut [u8]
+        requires present { IsSome (spans.handle_span i self.old.now) }
+        ensures* edited { sem 𝓛 (CallLendsField self.entry (spans.handle_span i self.old.now) result) }
+        ensures value { result.now ≡ bytes_if self.old.now (spans.handle_span i self.old.now) }
     {
-        sized(HANDLE, handle_span(i, self.packet))
+        let span = self.handle_place(i);
+        self.part(span.from, span.to)
     }
 
-    /// The 32 bytes of the i-th handle, from 0, for writing. None exactly where there is no handle of 32 bytes. Once the
-    /// borrow ends, the packet has there what was left in the slot, and every other byte is as it was.
-    pub fn handle_mut(&mut self, i: u8) -> Option<&mut [u8; HANDLE]>
-        ensures* edited { sem 𝓛 (CallLendsSlot self.entry (spans.sized 32 (spans.handle_span i self.old.now)) result) }
-        ensures variant { is_some result ≡ is_some (spans.sized 32 (spans.handle_span i self.old.now)) }
-        ensures value { IfSome result (λ bytes. bytes.now ≡ bytes_if self.old.now (spans.sized 32 (spans.handle_span i self.old.now))) }
+    /// Whether there is an i-th handle.
+    fn has_handle(&self, i: u8) -> bool
+        ensures { result ≡ is_some (spans.handle_span i self.now.now) }
     {
-        let span = self.slot_span(i);
-        self.lend(span)
+        handle_span(i, self.packet).is_some()
+    }
+
+    /// Whether there is an i-th handle, and the view again, so that `handle_mut` lends it to one call after the other.
+    fn seek_handle(&mut self, i: u8) -> (bool, &mut Self)
+        ensures same { result.1.ghost_name ≡ self.entry.ghost_name }
+        ensures kept { result.1.now ≡ self.old }
+        ensures found { result.0 ≡ is_some (spans.handle_span i self.old.now) }
+    {
+        (self.has_handle(i), self)
+    }
+
+    /// The bytes of the i-th handle, from 0, for writing. None exactly where there is none. Once the borrow ends, the packet
+    /// has there what was left in the slot, and every other byte is as it was.
+    pub fn handle_mut(&mut self, i: u8) -> Option<&mut [u8]>
+        ensures* edited { sem 𝓛 (CallLendsSlot self.entry (spans.handle_span i self.old.now) result) }
+        ensures variant { is_some result ≡ is_some (spans.handle_span i self.old.now) }
+        ensures value { IfSome result (λ bytes. bytes.now ≡ bytes_if self.old.now (spans.handle_span i self.old.now)) }
+    {
+        let (found, view) = self.seek_handle(i);
+        if found {
+            Some(view.handle_slot(i))
+        } else {
+            None
+        }
     }
 
     /// Writes the i-th handle, from 0. False exactly where there is none of this length.
@@ -119,7 +131,7 @@ impl<'a> CallView<'a> {
         ensures edited { Edited (spans.sized (length handle.now) (spans.handle_span i self.old.now)) handle.now self.old.now self.new.now }
         ensures done { result ≡ is_some (spans.sized (length handle.now) (spans.handle_span i self.old.now)) }
     {
-        edit_handle(self.packet, i, handle)
+        packet::set_handle(self.packet, i, handle)
     }
 
     /// Writes the xid.
@@ -127,7 +139,7 @@ impl<'a> CallView<'a> {
         ensures same_packet { self.new.ghost_name ≡ self.old.ghost_name }
         ensures edited { Edited (spans.xid_span self.old.now) (u32_text xid) self.old.now self.new.now }
     {
-        edit_xid(self.packet, xid);
+        packet::set_xid(self.packet, xid);
     }
 
     /// Writes the count of a READ. True exactly for a READ.
@@ -136,7 +148,7 @@ impl<'a> CallView<'a> {
         ensures edited { Edited (spans.count_span self.old.now) (u32_text count) self.old.now self.new.now }
         ensures done { result ≡ is_some (spans.count_span self.old.now) }
     {
-        edit_count(self.packet, count)
+        packet::set_count(self.packet, count)
     }
 
     /// Cuts a WRITE to the first n of its bytes, with zero padding, and gives the packet's new length. None exactly where
@@ -145,6 +157,6 @@ impl<'a> CallView<'a> {
         ensures same_packet { self.new.ghost_name ≡ self.old.ghost_name }
         ensures cut { IsCut (spans.content_in self.old.now) n self.old.now self.new.now result }
     {
-        cut_content(self.packet, n)
+        packet::cut_write(self.packet, n)
     }
 }

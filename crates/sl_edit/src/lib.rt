@@ -1,17 +1,17 @@
 //! Calls and replies edited in place (RFC 1813, section 3.3; RFC 5531, section 9).
 //!
 //! A view borrows a packet and takes no memory. Each of its edits writes one field where it stands and keeps every other
-//! byte, padding and what follows the arguments with it.
+//! byte, padding and what follows the arguments with it. The functions of `packet` are the same edits with no view, for
+//! who goes on with the packet and has to know what it is then.
 #![tactic(auto)]
 
-mod call_edits;
 mod call_spans;
 mod call_view;
 mod cuts;
 mod laws;
 mod layout;
 mod lending;
-mod reply_edits;
+pub mod packet;
 mod reply_spans;
 mod reply_view;
 mod span;

@@ -9,13 +9,11 @@ ghost use Rattle.sl_edit.specs.Packets.{IsReply};
 ghost use Rattle.sl_edit.specs.Spans as spans;
 
 use crate::lending::array_at;
-use crate::reply_edits::{clear_keepers, edit_attributes, edit_eof, edit_verifier};
-use crate::reply_spans::{attributes_span, results_in};
-use crate::span::{Span, edit_xid};
+use crate::packet;
+use crate::reply_spans::attributes_span;
+use crate::span::Span;
 use crate::words::FATTR;
-use sl_replies::is_reply;
 use sl_types::Fattr;
-use sl_xdr::Short;
 use std::marker::Model;
 
 /// A reply in a packet, whose fields are edited in place. Contracts see its procedure and the reference to its packet.
@@ -35,16 +33,6 @@ impl<'a> Model for ReplyView<'a> {
     ghost view = { λ v. record { procedure = v.procedure; packet = v.packet } };
 }
 
-/// Whether the packet is an accepted reply that was a success, with results of this procedure.
-fn is_accepted(procedure: u32, packet: &[u8]) -> bool
-    ensures { (result ≡ true) ↔ IsReply procedure packet.now }
-{
-    match results_in(packet) {
-        Ok(results) => is_reply(procedure, results),
-        Err(Short) => false,
-    }
-}
-
 impl<'a> ReplyView<'a> {
     /// The reply in the packet. None exactly where the packet is no accepted reply of this procedure's grammar.
     pub fn new(procedure: u32, packet: &'a mut [u8]) -> Option<ReplyView<'a>>
@@ -52,7 +40,7 @@ impl<'a> ReplyView<'a> {
         ensures kept { IfSome result (λ view. view.packet.now ≡ packet.old) }
         ensures variant { IsSome result ↔ IsReply procedure packet.old }
     {
-        if is_accepted(procedure, packet) {
+        if packet::is_reply(packet, procedure) {
             Some(ReplyView { procedure, packet })
         } else {
             None
@@ -64,7 +52,7 @@ impl<'a> ReplyView<'a> {
         ensures same_packet { (self.new.procedure ≡ self.old.procedure) × (self.new.packet.ghost_name ≡ self.old.packet.ghost_name) }
         ensures edited { Edited (spans.xid_span self.old.packet.now) (u32_text xid) self.old.packet.now self.new.packet.now }
     {
-        edit_xid(self.packet, xid);
+        packet::set_xid(self.packet, xid);
     }
 
     /// The packet, for writing.
@@ -121,7 +109,7 @@ impl<'a> ReplyView<'a> {
         ensures edited { Edited (spans.attributes_span self.old.procedure self.old.packet.now) (fattr_text attr.now) self.old.packet.now self.new.packet.now }
         ensures done { result ≡ is_some (spans.attributes_span self.old.procedure self.old.packet.now) }
     {
-        edit_attributes(self.procedure, self.packet, attr)
+        packet::set_attributes(self.packet, self.procedure, attr)
     }
 
     /// Writes the write verifier of a WRITE or COMMIT. False exactly where the reply has none.
@@ -130,7 +118,7 @@ impl<'a> ReplyView<'a> {
         ensures edited { Edited (spans.verifier_span self.old.procedure self.old.packet.now) (u64_text v) self.old.packet.now self.new.packet.now }
         ensures done { result ≡ is_some (spans.verifier_span self.old.procedure self.old.packet.now) }
     {
-        edit_verifier(self.procedure, self.packet, v)
+        packet::set_verifier(self.packet, self.procedure, v)
     }
 
     /// Writes the end mark of a READ or a listing. False exactly where the reply has none.
@@ -139,7 +127,7 @@ impl<'a> ReplyView<'a> {
         ensures edited { Edited (spans.eof_span self.old.procedure self.old.packet.now) (u32_text (number_of_flag eof)) self.old.packet.now self.new.packet.now }
         ensures done { result ≡ is_some (spans.eof_span self.old.procedure self.old.packet.now) }
     {
-        edit_eof(self.procedure, self.packet, eof)
+        packet::set_eof(self.packet, self.procedure, eof)
     }
 
     /// Makes the handle that the call found or made a client's, whose last four bytes are zero. False exactly where the
@@ -149,6 +137,6 @@ impl<'a> ReplyView<'a> {
         ensures edited { Edited (spans.keepers_span self.old.procedure self.old.packet.now) (0 ∷ 0 ∷ 0 ∷ 0 ∷ []) self.old.packet.now self.new.packet.now }
         ensures done { result ≡ is_some (spans.keepers_span self.old.procedure self.old.packet.now) }
     {
-        clear_keepers(self.procedure, self.packet)
+        packet::restore_handle(self.packet, self.procedure)
     }
 }

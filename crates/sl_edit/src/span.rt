@@ -90,7 +90,7 @@ fn seek_xid(packet: &[u8]) -> Result<Span, Short>
 }
 
 /// The xid.
-fn xid_span(packet: &[u8]) -> Option<Span>
+pub(crate) fn xid_span(packet: &[u8]) -> Option<Span>
     ensures exact { result ≡ spans.xid_span packet.now }
     ensures inside { IfSome result (IsWithin packet.now 4) }
 {
@@ -119,13 +119,4 @@ pub(crate) fn show(packet: &[u8], span: Option<Span>) -> Option<&[u8]>
         Some(span) => Some(&packet[span.from..span.to]),
         None => None,
     }
-}
-
-/// Writes the xid.
-pub(crate) fn edit_xid(packet: &mut [u8], xid: u32) -> bool
-    ensures edited { Edited (spans.xid_span packet.old) (u32_text xid) packet.old packet.new }
-    ensures done { result ≡ is_some (spans.xid_span packet.old) }
-{
-    let span = xid_span(packet);
-    put_u32(packet, span, xid)
 }

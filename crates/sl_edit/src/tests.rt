@@ -1,5 +1,5 @@
-ghost use Rattle.std.specs.Prelude.{◌≡◌, is_some};
-ghost use Rattle.sl_edit.specs.Edits.{Edited};
+ghost use Rattle.std.specs.Prelude.{◌≡◌, is_some, length, IsSome};
+ghost use Rattle.sl_edit.specs.Edits.{Edited, bytes_if};
 ghost use Rattle.sl_edit.specs.Spans as spans;
 
 use super::*;
@@ -19,7 +19,7 @@ fn text(alloc: Global, numbers: &[u32]) -> Result<Vec<u8>, Fail> {
 }
 
 /// A packet that begins with these numbers.
-fn packet(alloc: Global, head: &[u32], numbers: &[u32]) -> Result<Vec<u8>, Fail> {
+fn packet_of(alloc: Global, head: &[u32], numbers: &[u32]) -> Result<Vec<u8>, Fail> {
     let mut out = text(alloc, head)?;
     for number in numbers {
         put_u32(&mut out, *number)?;
@@ -41,11 +41,11 @@ const REPLY: [u32; 6] = [5, 1, 0, 0, 0, 0];
 fn an_xid_is_written_and_padding_stays(rt: HostRuntime) -> Result<(), Fail> {
     // a handle of one byte and the name `a`, with padding of 01 02 03, and more behind
     let arguments = [1, 0x6801_0203, 1, 0x6101_0203, 7];
-    let mut call = packet(rt.alloc(), &LOOKUP, &arguments)?;
+    let mut call = packet_of(rt.alloc(), &LOOKUP, &arguments)?;
     CallView::new(&mut call).ok_or("no call")?.set_xid(9);
     let mut head = LOOKUP;
     head[0] = 9;
-    let expected = packet(rt.alloc(), &head, &arguments)?;
+    let expected = packet_of(rt.alloc(), &head, &arguments)?;
     assert_eq!(rt; call.as_slice(), expected.as_slice());
     Ok(())
 }
@@ -65,7 +65,7 @@ fn written_anew(alloc: Global, args: &[u8]) -> Result<Vec<u8>, Fail> {
 
 /// A LOOKUP of the name `a` in the root, with padding of 01 02 03, after another xid was written.
 fn edited_lookup(alloc: Global) -> Result<Vec<u8>, Fail> {
-    let mut call = packet(alloc, &LOOKUP, &root_and_name(0x6101_0203))?;
+    let mut call = packet_of(alloc, &LOOKUP, &root_and_name(0x6101_0203))?;
     CallView::new(&mut call).ok_or("no call")?.set_xid(9);
     Ok(call)
 }
@@ -75,7 +75,7 @@ fn the_padding_of_a_lookup_stays(rt: HostRuntime) -> Result<(), Fail> {
     let call = edited_lookup(rt.alloc())?;
     let mut head = LOOKUP;
     head[0] = 9;
-    let expected = packet(rt.alloc(), &head, &root_and_name(0x6101_0203))?;
+    let expected = packet_of(rt.alloc(), &head, &root_and_name(0x6101_0203))?;
     assert_eq!(rt; call.as_slice(), expected.as_slice());
     Ok(())
 }
@@ -91,18 +91,13 @@ fn what_is_written_anew_has_zero_padding(rt: HostRuntime) -> Result<(), Fail> {
 }
 
 /// Writes the i-th handle through its slot. Its caller knows of the packet what it would after `set_handle`.
-fn write_handle(view: &mut CallView<'_>, i: u8, handle: &[u8; 32]) -> bool
+fn write_handle(view: &mut CallView<'_>, i: u8, handle: &[u8])
+    requires present { IsSome (spans.handle_span i view.old.now) }
+    requires size { length (bytes_if view.old.now (spans.handle_span i view.old.now)) ≡ length handle.now }
     ensures same_packet { view.new.ghost_name ≡ view.old.ghost_name }
-    ensures edited { Edited (spans.sized 32 (spans.handle_span i view.old.now)) handle.now view.old.now view.new.now }
-    ensures done { result ≡ is_some (spans.sized 32 (spans.handle_span i view.old.now)) }
+    ensures edited { Edited (spans.handle_span i view.old.now) handle.now view.old.now view.new.now }
 {
-    match view.handle_mut(i) {
-        Some(slot) => {
-            *slot = *handle;
-            true
-        }
-        None => false,
-    }
+    view.handle_slot(i).copy_from_slice(handle);
 }
 
 /// The same of attributes.
@@ -121,41 +116,57 @@ fn write_attributes(view: &mut ReplyView<'_>, attributes: &[u8; 84]) -> bool
 }
 
 #[test]
-fn a_handle_of_32_bytes_is_lent(rt: HostRuntime) -> Result<(), Fail> {
-    let mut call = packet(rt.alloc(), &LOOKUP, &root_and_name(0x6101_0203))?;
+fn a_handle_is_lent(rt: HostRuntime) -> Result<(), Fail> {
+    let mut call = packet_of(rt.alloc(), &LOOKUP, &root_and_name(0x6101_0203))?;
     let mut view = CallView::new(&mut call).ok_or("no call")?;
-    assert!(rt; write_handle(&mut view, 0, &[7; 32]));
-    assert!(rt; !write_handle(&mut view, 1, &[7; 32]));
-    let seven = 0x0707_0707;
+    let seven = [7; 32];
+    let shown = view.handle(0).ok_or("no handle")?;
+    assert_eq!(rt; shown.len(), seven.len());
+    write_handle(&mut view, 0, &seven);
+    let word = 0x0707_0707;
     let arguments = [
         32,
-        seven,
-        seven,
-        seven,
-        seven,
-        seven,
-        seven,
-        seven,
-        seven,
+        word,
+        word,
+        word,
+        word,
+        word,
+        word,
+        word,
+        word,
         1,
         0x6101_0203,
     ];
-    let expected = packet(rt.alloc(), &LOOKUP, &arguments)?;
+    let expected = packet_of(rt.alloc(), &LOOKUP, &arguments)?;
     assert_eq!(rt; call.as_slice(), expected.as_slice());
     Ok(())
 }
 
 #[test]
-fn other_handles_are_shown_and_written(rt: HostRuntime) -> Result<(), Fail> {
+fn handles_of_any_length_are_lent(rt: HostRuntime) -> Result<(), Fail> {
+    // a handle of one byte, one of none and the name `a`, with padding of 01 02 03
+    let mut head = LOOKUP;
+    head[5] = 15;
+    let mut call = packet_of(rt.alloc(), &head, &[1, 0x6801_0203, 0, 1, 0x6101_0203])?;
+    let mut view = CallView::new(&mut call).ok_or("no call")?;
+    view.handle_mut(0).ok_or("no handle")?.fill(0x6b);
+    assert!(rt; view.handle_mut(1).ok_or("no handle")?.is_empty());
+    assert!(rt; view.handle_mut(2).is_none());
+    let expected = packet_of(rt.alloc(), &head, &[1, 0x6b01_0203, 0, 1, 0x6101_0203])?;
+    assert_eq!(rt; call.as_slice(), expected.as_slice());
+    Ok(())
+}
+
+#[test]
+fn handles_are_shown_and_written(rt: HostRuntime) -> Result<(), Fail> {
     // a handle of one byte and the name `a`, with padding of 01 02 03
-    let mut call = packet(rt.alloc(), &LOOKUP, &[1, 0x6801_0203, 1, 0x6101_0203])?;
+    let mut call = packet_of(rt.alloc(), &LOOKUP, &[1, 0x6801_0203, 1, 0x6101_0203])?;
     let mut view = CallView::new(&mut call).ok_or("no call")?;
     assert_eq!(rt; view.handle(0).ok_or("no handle")?, b"h".as_slice());
     assert!(rt; view.handle(1).is_none());
-    assert!(rt; view.handle_mut(0).is_none());
     assert!(rt; !view.set_handle(0, b"kk"));
     assert!(rt; view.set_handle(0, b"k"));
-    let expected = packet(rt.alloc(), &LOOKUP, &[1, 0x6b01_0203, 1, 0x6101_0203])?;
+    let expected = packet_of(rt.alloc(), &LOOKUP, &[1, 0x6b01_0203, 1, 0x6101_0203])?;
     assert_eq!(rt; call.as_slice(), expected.as_slice());
     Ok(())
 }
@@ -169,11 +180,11 @@ fn takes_second(
 ) -> Result<bool, Fail> {
     let mut head = LOOKUP;
     head[5] = procedure;
-    let mut call = packet(alloc, &head, before)?;
+    let mut call = packet_of(alloc, &head, before)?;
     let done = CallView::new(&mut call)
         .ok_or("no call")?
         .set_handle(1, b"wxyz");
-    let expected = packet(alloc, &head, after)?;
+    let expected = packet_of(alloc, &head, after)?;
     Ok(done && call.as_slice() == expected.as_slice())
 }
 
@@ -199,7 +210,7 @@ fn attributes_are_lent(rt: HostRuntime) -> Result<(), Fail> {
 
 #[test]
 fn what_no_readable_call_is_has_no_view(rt: HostRuntime) -> Result<(), Fail> {
-    let call = packet(rt.alloc(), &LOOKUP, &[0, 1, 0x6100_0000])?;
+    let call = packet_of(rt.alloc(), &LOOKUP, &[0, 1, 0x6100_0000])?;
     for n in 0..call.len() {
         let (front, _) = call.as_slice().split_at_checked(n).ok_or("short")?;
         let mut front = front.to_vec(rt.alloc())?;
@@ -213,14 +224,14 @@ fn what_no_readable_call_is_has_no_view(rt: HostRuntime) -> Result<(), Fail> {
 
 #[test]
 fn only_a_read_has_a_count_to_write(rt: HostRuntime) -> Result<(), Fail> {
-    let mut call = packet(rt.alloc(), &READ, &[3, 0x6162_6307, 0, 8, 4096])?;
+    let mut call = packet_of(rt.alloc(), &READ, &[3, 0x6162_6307, 0, 8, 4096])?;
     assert!(rt; CallView::new(&mut call).ok_or("no call")?.set_count(100));
-    let expected = packet(rt.alloc(), &READ, &[3, 0x6162_6307, 0, 8, 100])?;
+    let expected = packet_of(rt.alloc(), &READ, &[3, 0x6162_6307, 0, 8, 100])?;
     assert_eq!(rt; call.as_slice(), expected.as_slice());
     let arguments = [0, 0, 8, 4, 2, 4, 0x6162_6364];
-    let mut other = packet(rt.alloc(), &WRITE, &arguments)?;
+    let mut other = packet_of(rt.alloc(), &WRITE, &arguments)?;
     assert!(rt; !CallView::new(&mut other).ok_or("no call")?.set_count(100));
-    let expected = packet(rt.alloc(), &WRITE, &arguments)?;
+    let expected = packet_of(rt.alloc(), &WRITE, &arguments)?;
     assert_eq!(rt; other.as_slice(), expected.as_slice());
     Ok(())
 }
@@ -235,14 +246,14 @@ const CUTS: [(u32, &[u32]); 4] = [
 
 /// Whether a WRITE that is cut to n bytes has these arguments.
 fn is_cut(alloc: Global, n: u32, arguments: &[u32]) -> Result<bool, Fail> {
-    let mut call = packet(
+    let mut call = packet_of(
         alloc,
         &WRITE,
         &[0, 0, 8, 7, 2, 5, 0x6162_6364, 0x6501_0203, 7],
     )?;
     let mut view = CallView::new(&mut call).ok_or("no call")?;
     let length = view.cut_write(n).ok_or("not cut")?;
-    let expected = packet(alloc, &WRITE, arguments)?;
+    let expected = packet_of(alloc, &WRITE, arguments)?;
     let (cut, _) = call.as_slice().split_at_checked(length).ok_or("short")?;
     Ok(cut == expected.as_slice())
 }
@@ -258,14 +269,14 @@ fn a_write_is_cut_to_its_first_bytes(rt: HostRuntime) -> Result<(), Fail> {
 #[test]
 fn what_has_fewer_bytes_is_not_cut(rt: HostRuntime) -> Result<(), Fail> {
     let arguments = [0, 0, 8, 5, 2, 5, 0x6162_6364, 0x6501_0203];
-    let mut call = packet(rt.alloc(), &WRITE, &arguments)?;
+    let mut call = packet_of(rt.alloc(), &WRITE, &arguments)?;
     assert_eq!(rt;
         CallView::new(&mut call).ok_or("no call")?.cut_write(6),
         None
     );
-    let expected = packet(rt.alloc(), &WRITE, &arguments)?;
+    let expected = packet_of(rt.alloc(), &WRITE, &arguments)?;
     assert_eq!(rt; call.as_slice(), expected.as_slice());
-    let mut read = packet(rt.alloc(), &READ, &[0, 0, 8, 4096])?;
+    let mut read = packet_of(rt.alloc(), &READ, &[0, 0, 8, 4096])?;
     assert_eq!(rt;
         CallView::new(&mut read).ok_or("no call")?.cut_write(0),
         None
@@ -318,7 +329,7 @@ fn reply_with(
     attributes: &[u32],
     behind: &[u32],
 ) -> Result<Vec<u8>, Fail> {
-    let mut out = packet(alloc, &REPLY, before)?;
+    let mut out = packet_of(alloc, &REPLY, before)?;
     for number in attributes {
         put_u32(&mut out, *number)?;
     }
@@ -363,11 +374,11 @@ const BARE: [(u32, &[u32]); 6] = [
 
 /// Whether no attributes are written in these results.
 fn are_left(alloc: Global, procedure: u32, results: &[u32]) -> Result<bool, Fail> {
-    let mut reply = packet(alloc, &REPLY, results)?;
+    let mut reply = packet_of(alloc, &REPLY, results)?;
     let done = ReplyView::new(procedure, &mut reply)
         .ok_or("no reply")?
         .patch_attr(&ROOT);
-    let expected = packet(alloc, &REPLY, results)?;
+    let expected = packet_of(alloc, &REPLY, results)?;
     Ok(!done && reply.as_slice() == expected.as_slice())
 }
 
@@ -404,23 +415,23 @@ fn makes(
     edit: Edit,
     after: &[u32],
 ) -> Result<bool, Fail> {
-    let mut reply = packet(alloc, &REPLY, before)?;
+    let mut reply = packet_of(alloc, &REPLY, before)?;
     let done = apply(
         &mut ReplyView::new(procedure, &mut reply).ok_or("no reply")?,
         edit,
     );
-    let expected = packet(alloc, &REPLY, after)?;
+    let expected = packet_of(alloc, &REPLY, after)?;
     Ok(done && reply.as_slice() == expected.as_slice())
 }
 
 /// Whether the edit says that there is nothing to edit, and leaves the results as they are.
 fn leaves(alloc: Global, procedure: u32, results: &[u32], edit: Edit) -> Result<bool, Fail> {
-    let mut reply = packet(alloc, &REPLY, results)?;
+    let mut reply = packet_of(alloc, &REPLY, results)?;
     let done = apply(
         &mut ReplyView::new(procedure, &mut reply).ok_or("no reply")?,
         edit,
     );
-    let expected = packet(alloc, &REPLY, results)?;
+    let expected = packet_of(alloc, &REPLY, results)?;
     Ok(!done && reply.as_slice() == expected.as_slice())
 }
 
@@ -479,9 +490,73 @@ fn a_handle_of_32_bytes_becomes_a_clients(rt: HostRuntime) -> Result<(), Fail> {
 
 #[test]
 fn a_reply_takes_another_xid(rt: HostRuntime) -> Result<(), Fail> {
-    let mut reply = packet(rt.alloc(), &REPLY, &[70])?;
+    let mut reply = packet_of(rt.alloc(), &REPLY, &[70])?;
     ReplyView::new(1, &mut reply).ok_or("no reply")?.set_xid(8);
     let expected = text(rt.alloc(), &[8, 1, 0, 0, 0, 0, 70])?;
     assert_eq!(rt; reply.as_slice(), expected.as_slice());
+    Ok(())
+}
+
+#[test]
+fn a_call_is_edited_with_no_view(rt: HostRuntime) -> Result<(), Fail> {
+    // a handle of one byte and the name `a`, with padding of 01 02 03
+    let mut call = packet_of(rt.alloc(), &LOOKUP, &[1, 0x6801_0203, 1, 0x6101_0203])?;
+    assert!(rt; packet::is_call(&call));
+    assert!(rt; packet::set_xid(&mut call, 9));
+    assert!(rt; packet::set_handle(&mut call, 0, b"k"));
+    assert_eq!(rt;
+        packet::handle(&call, 0).ok_or("no handle")?,
+        b"k".as_slice()
+    );
+    let mut head = LOOKUP;
+    head[0] = 9;
+    let expected = packet_of(rt.alloc(), &head, &[1, 0x6b01_0203, 1, 0x6101_0203])?;
+    assert_eq!(rt; call.as_slice(), expected.as_slice());
+    Ok(())
+}
+
+#[test]
+fn a_read_and_a_write_are_edited_with_no_view(rt: HostRuntime) -> Result<(), Fail> {
+    let mut read = packet_of(rt.alloc(), &READ, &[0, 0, 8, 4096])?;
+    assert!(rt; packet::set_count(&mut read, 100));
+    let expected = packet_of(rt.alloc(), &READ, &[0, 0, 8, 100])?;
+    assert_eq!(rt; read.as_slice(), expected.as_slice());
+    let mut write = packet_of(
+        rt.alloc(),
+        &WRITE,
+        &[0, 0, 8, 5, 2, 5, 0x6162_6364, 0x6501_0203],
+    )?;
+    let length = packet::cut_write(&mut write, 2).ok_or("not cut")?;
+    let expected = packet_of(rt.alloc(), &WRITE, &[0, 0, 8, 2, 2, 2, 0x6162_0000])?;
+    let (cut, _) = write.as_slice().split_at_checked(length).ok_or("short")?;
+    assert_eq!(rt; cut, expected.as_slice());
+    Ok(())
+}
+
+#[test]
+fn a_reply_is_edited_with_no_view(rt: HostRuntime) -> Result<(), Fail> {
+    let mut reply = reply_with(rt.alloc(), &[0, 0, 1], &OLD_WORDS, &[5, 2, 0, 9])?;
+    assert!(rt; packet::is_reply(&reply, 7));
+    assert!(rt; packet::set_attributes(&mut reply, 7, &ROOT));
+    assert!(rt; packet::set_verifier(&mut reply, 7, 0x0000_0001_0000_0002));
+    let expected = reply_with(rt.alloc(), &[0, 0, 1], &ROOT_WORDS, &[5, 2, 1, 2])?;
+    assert_eq!(rt; reply.as_slice(), expected.as_slice());
+    Ok(())
+}
+
+#[test]
+fn marks_and_handles_are_edited_with_no_view(rt: HostRuntime) -> Result<(), Fail> {
+    let mut read = packet_of(rt.alloc(), &REPLY, &[0, 0, 2, 0, 2, 0x6162_0304])?;
+    assert!(rt; packet::set_eof(&mut read, 6, true));
+    let expected = packet_of(rt.alloc(), &REPLY, &[0, 0, 2, 1, 2, 0x6162_0304])?;
+    assert_eq!(rt; read.as_slice(), expected.as_slice());
+    let mut found = packet_of(
+        rt.alloc(),
+        &REPLY,
+        &[0, 32, 1, 2, 3, 4, 5, 6, 7, 0x0003_0004, 0, 0],
+    )?;
+    assert!(rt; packet::restore_handle(&mut found, 3));
+    let expected = packet_of(rt.alloc(), &REPLY, &[0, 32, 1, 2, 3, 4, 5, 6, 7, 0, 0, 0])?;
+    assert_eq!(rt; found.as_slice(), expected.as_slice());
     Ok(())
 }

@@ -1,4 +1,4 @@
-use Rattle.sl_edit.proofs.call_edits.edit_handle.Goals as goal
+use Rattle.sl_edit.proofs.packet.set_handle.Goals as goal
 
 pub returns-clause-edited : goal.returns-clause-edited
 returns-clause-edited c = rw (c.sized-span.ensures.exact, c.handle_span.ensures.exact) at c.put.ensures.edited

@@ -1,4 +1,4 @@
-use Rattle.sl_edit.proofs.span.edit_xid.Goals as goal
+use Rattle.sl_edit.proofs.packet.set_xid.Goals as goal
 
 pub returns-clause-edited : goal.returns-clause-edited
 returns-clause-edited c = rw c.xid_span-span.ensures.exact at c.put_u32.ensures.edited
