@@ -120,6 +120,3 @@ fn main(rt: HostRuntime) -> io::Result<()> {
         counts.cases, counts.rows, counts.wrong
     )
 }
-
-#[cfg(test)]
-mod tests;

@@ -3,14 +3,14 @@ use Rattle.std.specs.Prelude.{◌≡◌, ℕ, ◌^◌, ◌<◌, List, ◌++◌, 
 use Rattle.sl_defs.specs.declared.note.Choice.{Choice}
 use Rattle.sl_defs.specs.declared.setup.Time.{Time}
 use Rattle.sl_defs.specs.Items.{AreBytes}
+use Rattle.sl_defs.specs.Rpc.{accepted_text}
 use Rattle.sl_defs.specs.Schedules.{◌and◌, hex_text}
 use Rattle.sl_types.specs.declared.cred.Cred.{Cred}
 use Rattle.sl_types.specs.declared.call.Call.{Call}
 use Rattle.sl_types.specs.declared.reply.Reply.{Reply}
-use Rattle.sl_rpc.specs.declared.head.AcceptStat.TheVariants.{Success}
 use Rattle.sl_rpc.specs.declared.head.Head.{Head}
 use Rattle.sl_rpc.specs.declared.head.Head.TheVariants as head
-use Rattle.sl_rpc.specs.Heads.{IsHeadOf, accept_text}
+use Rattle.sl_rpc.specs.Heads.{IsHeadOf}
 use Rattle.sl_calls.specs.Args.{BeginsWithArgs}
 use Rattle.sl_replies.specs.Texts.{FitsReply, reply_text}
 use Rattle.sl_model.specs.Plan.{run}
@@ -54,7 +54,7 @@ pub record Prints (Is : Answer → Type 0) (text : List ℕ) : Type 0 where
 
 -- an accepted call's reply (RFC 5531, section 9): its head, and the results
 abbrev pub accepted : ℕ → Reply → List ℕ
-accepted xid reply = accept_text xid Success ++ reply_text reply
+accepted xid reply = accepted_text xid 0 ++ reply_text reply
 
 -- its bytes, or that no packet can hold it
 abbrev pub IsReplyAnswer : ℕ → Reply → Answer → Type 0

@@ -5,11 +5,10 @@ ghost use Rattle.sl_defs.specs.declared.setup.Time.{Time};
 ghost use Rattle.plainly.specs.Answers.{FitsRequest, IsCallAnswer, IsReplyAnswer, IsAnswerTo, call_text};
 
 use crate::answers::Answer;
-use crate::fitting::fits;
 use sl_calls::read_args;
+use sl_packing::{PacketFault, reply_packet};
 use sl_plain::Volume;
-use sl_replies::write_reply;
-use sl_rpc::{AcceptStat, Head, read_call, write_accept};
+use sl_rpc::{Head, read_call};
 use sl_text::{cut, hex_bytes, number_u32, number_u64};
 use sl_types::{ArgsFault, Bytes, Call, Choice, Cred, Ended, NoMemory, Reply, Time};
 use std::alloc::Global;
@@ -41,17 +40,11 @@ pub fn call_of(alloc: Global, text: &[u8]) -> Result<(Time, Choice, Bytes), NoMe
 fn answer_reply(alloc: Global, xid: u32, reply: &Reply) -> Result<Answer, NoMemory>
     ensures { IfOk result (IsReplyAnswer xid reply.now) }
 {
-    if !fits(reply) {
-        return Ok(Answer::TooLong);
+    match reply_packet(alloc, xid, reply) {
+        Ok(packet) => Ok(Answer::Reply(packet)),
+        Err(PacketFault::TooLong) => Ok(Answer::TooLong),
+        Err(PacketFault::NoMemory) => Err(NoMemory),
     }
-    let mut packet = Vec::new(alloc);
-    if write_accept(xid, AcceptStat::Success, &mut packet).is_err() {
-        return Err(NoMemory);
-    }
-    if write_reply(reply, &mut packet).is_err() {
-        return Err(NoMemory);
-    }
-    Ok(Answer::Reply(Bytes::new(packet)))
 }
 
 /// The answer to a call, which is performed.

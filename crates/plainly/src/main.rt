@@ -14,7 +14,6 @@
 
 mod answers;
 mod calls;
-mod fitting;
 mod requests;
 
 use crate::requests::answer_text;

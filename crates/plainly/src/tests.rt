@@ -1,7 +1,5 @@
-use crate::fitting::fits;
 use crate::requests::answer_text;
 use sl_plain::Volume;
-use sl_types::{Bytes, Fh, LookupOk, Reply, Status};
 use std::test::Fail;
 
 /// Requests on a new volume, one behind the other, and their answers.
@@ -30,25 +28,5 @@ fn requests_have_these_answers(rt: HostRuntime) -> Result<(), Fail> {
         let found = answer_text(rt.alloc(), &mut volume, request)?;
         assert_eq!(rt; found.as_slice(), *expected);
     }
-    Ok(())
-}
-
-fn lookup_reply(rt: &HostRuntime, length: usize) -> Result<Reply, Fail> {
-    let object = Fh::new(Bytes::new(vec![in rt.alloc(); 7; length]?));
-    Ok(Reply::Lookup(Ok(LookupOk {
-        object,
-        attributes: None,
-        dir_attributes: None,
-    })))
-}
-
-#[test]
-fn a_handle_of_65_bytes_and_a_failure_that_is_ok_are_in_no_reply(
-    rt: HostRuntime,
-) -> Result<(), Fail> {
-    assert!(rt; fits(&lookup_reply(&rt, 64)?));
-    assert!(rt; !fits(&lookup_reply(&rt, 65)?));
-    assert!(rt; fits(&Reply::Getattr(Err(Status::Stale))));
-    assert!(rt; !fits(&Reply::Getattr(Err(Status::Ok))));
     Ok(())
 }

@@ -1,6 +1,8 @@
 -- The writes of other files.
 use Rattle.std.proofs.Common.{◌≡◌, ℕ, List, [], ◌∷◌, true, false, cond, refl, ap}
-use Rattle.std.specs.Prelude.{filter, map, not, ◌==◌}
+use Rattle.std.specs.Prelude.{filter, map, not, ◌==◌, ◌||◌}
+use Rattle.std.specs.List.{list_any}
+use Rattle.sl_model.specs.Gathered.{is_unstable}
 use Rattle.sl_model.specs.Volume.{without_file}
 use Rattle.sl_plain.specs.declared.pending.Pending.{Pending}
 use Rattle.sl_plain.specs.Unstables.{write_of}
@@ -12,3 +14,8 @@ others f (p ∷ ps) =
       | true ↦ others f ps
       | false ↦ ap (λ z. write_of p ∷ z) (others f ps)
     ]
+
+-- a test of the writes' files
+pub any_of_file : (file : ℕ) (ps : List Pending) → list_any (λ (p : Pending). p.fileid == file) ps ≡ is_unstable file (map write_of ps)
+any_of_file file [] = refl
+any_of_file file (p ∷ ps) = ap (λ b. (p.fileid == file) || b) (any_of_file file ps)

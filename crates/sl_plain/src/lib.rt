@@ -39,6 +39,3 @@ pub use unstable::UnstableWrites;
 pub use used::Used;
 pub use volume::Volume;
 pub use written::Written;
-
-#[cfg(test)]
-mod tests;

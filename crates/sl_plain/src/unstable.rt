@@ -1,4 +1,6 @@
-ghost use Rattle.std.specs.Prelude.{◌≡◌, ◌++◌, ◌∷◌, [], map, ◌+◌, ◌^◌, ◌<◌, length, OnOk, IfOk};
+ghost use Rattle.std.specs.List.{list_any};
+ghost use Rattle.std.specs.Prelude.{◌≡◌, ◌==◌, ◌++◌, ◌∷◌, [], map, ◌+◌, ◌^◌, ◌<◌, length, OnOk, IfOk};
+ghost use Rattle.sl_model.specs.Gathered.{is_unstable};
 ghost use Rattle.sl_model.specs.Volume.{without_file, after_write, after_writes, byte_after, byte_after_write};
 ghost use Rattle.sl_plain.specs.Unstables.{write_of};
 
@@ -54,6 +56,13 @@ impl Pending {
     }
 }
 
+/// Whether some of the writes are of this file.
+fn any_of(writes: &[Pending], file: u64) -> bool
+    ensures { result ≡ list_any (λ w. w.fileid == file) writes.now }
+{
+    writes.iter().any(|write| write.fileid == file)
+}
+
 /// The unstable writes of a volume, from the oldest on, which contracts see as that list.
 #[derive(Drop)]
 pub struct UnstableWrites {
@@ -95,6 +104,13 @@ impl UnstableWrites {
             return Err(NoMemory);
         };
         Ok(())
+    }
+
+    /// Whether some are of this file.
+    pub fn has(&self, file: u64) -> bool
+        ensures { result ≡ is_unstable file self.now }
+    {
+        any_of(self.items.as_slice(), file)
     }
 
     /// Leaves the writes of other files.

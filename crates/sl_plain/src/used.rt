@@ -1,4 +1,4 @@
-ghost use Rattle.std.specs.Prelude.{◌≡◌, OnOk, IfOk};
+ghost use Rattle.std.specs.Prelude.{◌≡◌, OnOk, IfOk, is_some};
 ghost use Rattle.std.specs.FinMap as map;
 
 use sl_defs::NoMemory;
@@ -32,6 +32,16 @@ impl Used {
     {
         Used {
             entries: BTreeMap::new(alloc),
+        }
+    }
+
+    /// Whether the fileid was used.
+    pub fn has(&self, fileid: u64) -> bool
+        ensures { result ≡ is_some (map.get self.now fileid) }
+    {
+        match self.entries.get(&fileid) {
+            Some(_) => true,
+            None => false,
         }
     }
 

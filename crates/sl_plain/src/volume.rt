@@ -1,7 +1,8 @@
-ghost use Rattle.std.specs.Prelude.{◌≡◌, ◌≤◌, ◌+◌, ◌^◌, ◌<◌, length, IfOk, OnOk};
+ghost use Rattle.std.specs.Prelude.{◌≡◌, ◌≤◌, ◌+◌, ◌^◌, ◌<◌, length, IfOk, OnOk, is_some};
 ghost use Rattle.std.specs.FinMap as map;
 ghost use Rattle.sl_model.specs.Volume as volume;
 ghost use Rattle.sl_model.specs.Volume.{PutNode, TakeNode, PutName, TakeName, PutText, PutBytes, AddWrite};
+ghost use Rattle.sl_model.specs.Gathered.{is_unstable};
 ghost use Rattle.sl_model.specs.Perform as root;
 ghost use Rattle.sl_plain.specs.Outcomes.{change_of};
 ghost use Rattle.sl_plain.specs.Unstables.{write_of};
@@ -97,6 +98,20 @@ impl Volume {
         ensures { result ≡ self.now.verifier }
     {
         self.verifier
+    }
+
+    /// Whether a fileid was ever used.
+    pub fn was_used(&self, fileid: u64) -> bool
+        ensures { result ≡ is_some (map.get self.now.used fileid) }
+    {
+        self.used.has(fileid)
+    }
+
+    /// Whether a file has unstable writes.
+    pub fn is_unstable(&self, file: u64) -> bool
+        ensures { result ≡ is_unstable file self.now.unstable }
+    {
+        self.unstable.has(file)
     }
 
     /// The text of a symbolic link.

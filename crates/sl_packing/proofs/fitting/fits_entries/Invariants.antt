@@ -1,6 +1,6 @@
 use Rattle.std.proofs.Common.{All, take}
 use Rattle.sl_replies.specs.Texts.{FitsEntry}
-use Rattle.plainly.proofs.fitting.fits_entries.Given as goal
+use Rattle.sl_packing.proofs.fitting.fits_entries.Given as goal
 
 -- the entries so far fit
 abbrev pub invariant-loop-entry : goal.invariant-loop-entry

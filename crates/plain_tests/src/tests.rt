@@ -101,6 +101,8 @@ fn a_volume_is_copied_flushed_and_restarted(rt: HostRuntime) -> Result<(), Fail>
     copy.flush(1)?;
     copy.restart(rt.alloc(), 9);
     assert_eq!(rt; copy.verifier(), 9);
+    assert_eq!(rt; copy.was_used(1), volume.was_used(1));
+    assert_eq!(rt; copy.is_unstable(1), false);
     assert_eq!(rt; copy.node(1), volume.node(1));
     assert_eq!(rt; copy.seen(1), volume.seen(1));
     Ok(())
@@ -145,7 +147,9 @@ fn texts_are_put_copied_and_taken(rt: HostRuntime) -> Result<(), Fail> {
 fn used_fileids_are_put_and_copied(rt: HostRuntime) -> Result<(), Fail> {
     let mut used = Used::new(rt.alloc());
     used.put(2)?;
-    let _copy = used.copy(rt.alloc())?;
+    let copy = used.copy(rt.alloc())?;
+    assert_eq!(rt; copy.has(2), true);
+    assert_eq!(rt; copy.has(3), false);
     Ok(())
 }
 
@@ -168,6 +172,8 @@ fn unstable_writes_are_pushed_copied_and_forgotten(rt: HostRuntime) -> Result<()
     writes.push(pending(rt.alloc())?)?;
     let copy = writes.copy()?;
     writes.forget(2);
+    assert_eq!(rt; writes.has(2), false);
+    assert_eq!(rt; copy.has(2), true);
     assert_eq!(rt; writes.as_slice().len(), 0);
     assert_eq!(rt; copy.after(FILE).size, 5);
     assert_eq!(rt; copy.byte_after(2, 4, b'a'), b'y');
