@@ -21,7 +21,7 @@ unfolding fresh
 root_is_there = grind (arith, gets)
 
 asked_is_wired : Wired setup start asked_for_root
-unfolding frames frame request volume_after
+unfolding frames frame is_up request volume_after
 asked_is_wired = (
   welcome_is_wired,
   record {

@@ -18,7 +18,7 @@ use Rattle.sl_model.specs.Volume.{Volume}
 use Rattle.sl_model.specs.Gathered.{is_unstable}
 use Rattle.sl_model.specs.Laws.{status_of}
 use Rattle.sl_model.specs.Perform.{perform}
-use Rattle.sl_history.specs.Turns.{Remark, Did, Replied, Turn, History, events, so_far, turn_of, datagram_of}
+use Rattle.sl_history.specs.Turns.{Remark, Did, Replied, Junk, Early, Full, Lost, Turn, History, events, so_far, turn_of, datagram_of}
 use Rattle.sl_history.specs.Arrivals.{Datagram, IsJunk, IsAnswered, IsAsked, Asked, asked, answer_to, datagram, is_changing, drops_any, fileid_of}
 use Rattle.sl_history.specs.Volumes.{volume_after, volume_at, Effect, effect, outcome}
 use Rattle.sl_history.specs.Frames.{is_up}
@@ -147,10 +147,19 @@ abbrev pub IsEffectIf : Volume → History → Time → ℕ → Time → Choice 
 IsEffectIf start h now n at choice None = ⊥
 IsEffectIf start h now n at choice (Some a) = IsEffect start h now n at choice a
 
+-- A call that is dropped has neither an effect nor a reply.
+pub record IsDrop (h : History) (n : ℕ) : Type 0 where
+  pub undone : any_in (is_did n) h ≡ false
+  pub unanswered : any_in (is_reply n) h ≡ false
+
 -- What may be noted next. In h the newest turn has only the notes before this one.
 abbrev pub MayNote : Volume → History → Time → Remark → Type 0
 MayNote start h now (Did n at choice) = IsEffectIf start h now n at choice (asked h n)
 MayNote start h now (Replied n e bytes) = IsReply start h now n e bytes
+MayNote start h now (Junk n) = IsDrop h n
+MayNote start h now (Early n) = IsDrop h n
+MayNote start h now (Full n) = IsDrop h n
+MayNote start h now (Lost n) = IsDrop h n
 MayNote start h now other = Unit {0}
 
 abbrev pub AllMayBeNoted : Volume → Turn → History → List Remark → List Remark → Type 0

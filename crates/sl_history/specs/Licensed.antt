@@ -179,22 +179,22 @@ pub record IsFlushRequest (start : Volume) (h : History) (arrival f : ℕ) : Typ
   pub unstable : is_unstable f (volume_after start h).unstable ≡ true
   pub call : flushes_for (volume_after start h) f (asked h arrival) ≡ true
 
--- a request that was sent before is sent again for the same call
-abbrev pub is_again : Frame → Remark → Bool
-is_again f (Sent k g) = g.fence == f.fence && (g.tag == f.tag && g.to == f.to)
-is_again f other = false
+-- the request for this file's flush was sent before, for the same call
+abbrev pub is_again : ℕ → Frame → Remark → Bool
+is_again file f (Sent k g) = is_flush_of file (flush_in g.body) && (g.fence == f.fence && (g.tag == f.tag && g.arrival == f.arrival))
+is_again file f other = false
 
-abbrev pub again_among : Frame → List Remark → Bool
-again_among f [] = false
-again_among f (r ∷ rs) = is_again f r || again_among f rs
+abbrev pub again_among : ℕ → Frame → List Remark → Bool
+again_among file f [] = false
+again_among file f (r ∷ rs) = is_again file f r || again_among file f rs
 
-unfoldable pub was_sent : History → Frame → Bool
-was_sent [] f = false
-was_sent (t ∷ past) f = was_sent past f || again_among f t.remarks
+unfoldable pub was_sent : History → ℕ → Frame → Bool
+was_sent [] file f = false
+was_sent (t ∷ past) file f = was_sent past file f || again_among file f t.remarks
 
 abbrev pub IsRequestedIf : Volume → History → Frame → Option ℕ → Type 0
 IsRequestedIf start h f None = Unit {0}
-IsRequestedIf start h f (Some file) = was_sent h f ≡ false → IsFlushRequest start h f.arrival file
+IsRequestedIf start h f (Some file) = was_sent h file f ≡ false → IsFlushRequest start h f.arrival file
 
 -- ---- files with unstable writes, as the proxy sees them
 

@@ -34,7 +34,7 @@ use Rattle.sl_frames.specs.declared.frame.Frame.{Frame}
 use Rattle.sl_frames.specs.declared.body.Body.{Body}
 use Rattle.sl_frames.specs.declared.body.Body.TheVariants as body
 use Rattle.sl_history.specs.Turns.{Remark, Sent, Did, Flush, Replied, Turn, History, so_far}
-use Rattle.sl_history.specs.Frames.{frame, event_of_sending, named_number, given_number, in_flight, WasGiven}
+use Rattle.sl_history.specs.Frames.{is_up, frame, event_of_sending, named_number, given_number, in_flight, WasGiven}
 use Rattle.sl_history.specs.Arrivals.{Asked, asked, datagram, asked_in, fileid_of}
 use Rattle.sl_history.specs.Volumes.{volume_after, after_note}
 use Rattle.sl_history.specs.Licensed.{request, reaches}
@@ -50,15 +50,20 @@ abbrev pub is_receiver : ℕ → Option Frame → Bool
 is_receiver a None = false
 is_receiver a (Some f) = f.to == a
 
--- The actor is one whose event this is. At the opening only the proxy sends: its Hello.
+-- The event is one of this actor: a frame is given to it while it is up, or it starts.
+abbrev pub acts : History → Happening → ℕ → Bool
+acts past (Happens (event.Start b)) a = a == b && not (is_up past a)
+acts past (Happens (event.Give k)) a = is_receiver a (frame past k) && is_up past a
+acts past (Happens (event.Copy k)) a = is_receiver a (frame past k) && is_up past a
+acts past other a = false
+
+-- A frame is sent by an actor whose event it is, at a datagram by the proxy, at a tick by the proxy and the coordinator, while
+-- they are up. At the opening only the proxy sends: its Hello.
 abbrev pub may_send : History → Happening → Frame → Bool
 may_send past (Opens setup) f = is_proxy f.from && is_hello f.body
-may_send past (Happens (event.Call client bytes)) f = is_proxy f.from
-may_send past (Happens event.Tick) f = is_proxy f.from || is_coordinator f.from
-may_send past (Happens (event.Start a)) f = f.from == a
-may_send past (Happens (event.Give k)) f = is_receiver f.from (frame past k)
-may_send past (Happens (event.Copy k)) f = is_receiver f.from (frame past k)
-may_send past other f = false
+may_send past (Happens (event.Call client bytes)) f = is_proxy f.from && is_up past f.from
+may_send past (Happens event.Tick) f = (is_proxy f.from || is_coordinator f.from) && is_up past f.from
+may_send past other f = acts past other f.from
 
 -- ---- answers
 
@@ -212,13 +217,6 @@ pub record IsGranted (setup : Setup) (h : History) (v w : Volume) : Type 0 where
   pub op : ℕ
   pub cells : (k : Key) → Differs v w k → HasGranted h op (key_server setup k)
   pub bytes : (f at : ℕ) → DiffersAt v w f at → HasGranted h op (byte_server setup f at)
-
--- the turn is of this actor: it is given a frame, or it starts
-abbrev pub acts : History → Happening → ℕ → Bool
-acts past (Happens (event.Start a)) b = a == b
-acts past (Happens (event.Give k)) b = is_receiver b (frame past k)
-acts past (Happens (event.Copy k)) b = is_receiver b (frame past k)
-acts past other b = false
 
 -- An effect over several servers is noted by the coordinator, and each of them granted it. Any other is noted by the one
 -- directory server where all of it lies.

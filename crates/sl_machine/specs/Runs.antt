@@ -250,7 +250,16 @@ pub record TurnRun (w : World) (t : Turn) (w' : World) : Type 0 where
   pub remarks : t.remarks ≡ remarks_of told
   pub moment : t.moment ≡ w'.moment
 
--- The runs of a volume: the history, the newest turn first, and the world at its end.
+abbrev pub is_opening : Happening → Bool
+is_opening (Opens setup) = true
+is_opening other = false
+
+abbrev pub is_first : History → Bool
+is_first [] = true
+is_first (t ∷ past) = false
+
+-- The runs of a volume: the history, the newest turn first, and the world at its end. The first turn opens the volume, and
+-- no other does.
 abbrev pub Run : Setup → History → World → Type 0
 Run setup [] w = IsInitial setup w
-Run setup (t ∷ past) w' = (w : World) × Run setup past w × TurnRun w t w'
+Run setup (t ∷ past) w' = (w : World) × Run setup past w × (is_opening t.happening ≡ is_first past) × TurnRun w t w'

@@ -52,7 +52,7 @@ is_answered = record {
 pub a_null_call_is_answered : ANullCallIsAnswered
 a_null_call_is_answered = record {
   world = v8;
-  run = (w5, opened_run, is_answered);
+  run = (w5, opened_run, refl, is_answered);
   empty = empty_disks;
   proxy = (memory.OfProxy (fresh fence), got_here _ 0 _);
   coordinator = (memory.OfCoord new_coordinator, got_past _ 0 _ 1 _ refl coordinator_opened);

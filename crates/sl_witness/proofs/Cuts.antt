@@ -377,7 +377,7 @@ past_rest i r a b c e = past_two _ 0 _ _ i _ a (got_past _ 16 _ i _ c (got_past 
 pub a_cut_call_is_done : ACutCallIsDone
 a_cut_call_is_done = record {
   world = x15;
-  run = (x14, (x13, (x12, (x11, (w10, (w9, (w8, (w7, welcomed_run, is_asked), is_told), is_ordered), is_cut), is_found), is_sent_again), is_answered), is_replied);
+  run = (x14, (x13, (x12, (x11, (w10, (w9, (w8, (w7, welcomed_run, refl, is_asked), refl, is_told), refl, is_ordered), refl, is_cut), refl, is_found), refl, is_sent_again), refl, is_answered), refl, is_replied);
   empty = empty_disks;
   proxy = (memory.OfProxy (with_calls m6 3), got_here _ 0 _);
   coordinator = (memory.OfCoord idle_coordinator, past_two _ 0 _ _ 1 _ refl (got_past _ 16 _ 1 _ refl (got_here _ 1 _)));

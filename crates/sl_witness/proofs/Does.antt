@@ -484,7 +484,7 @@ past_all i r a b e =
 pub a_call_is_done : ACallIsDone
 a_call_is_done = record {
   world = w12;
-  run = (w11, (w10, (w9, (w8, (w7, welcomed_run, is_asked), is_told), is_ordered), is_done), is_replied);
+  run = (w11, (w10, (w9, (w8, (w7, welcomed_run, refl, is_asked), refl, is_told), refl, is_ordered), refl, is_done), refl, is_replied);
   empty = empty_disks;
   proxy = (memory.OfProxy (with_calls m6 3), got_here _ 0 _);
   coordinator = (memory.OfCoord idle_coordinator, past_all 1 _ refl refl coordinator_welcomed);

@@ -149,7 +149,7 @@ is_sent_on = record {
 }
 
 abbrev pub forwarded_run : Run setup forwarded w8
-forwarded_run = (w7, welcomed_run, is_sent_on)
+forwarded_run = (w7, welcomed_run, refl, is_sent_on)
 
 pub a_call_is_forwarded : ACallIsForwarded
 a_call_is_forwarded = record {

@@ -195,7 +195,7 @@ is_replied = record {
 pub a_call_is_replied : ACallIsReplied
 a_call_is_replied = record {
   world = w10;
-  run = (w9, (w8, forwarded_run, is_looked_up), is_replied);
+  run = (w9, (w8, forwarded_run, refl, is_looked_up), refl, is_replied);
   empty = empty_disks;
   proxy = (memory.OfProxy (with_calls m4 2), got_here _ 0 _);
   coordinator = (memory.OfCoord idle_coordinator, past_two _ 0 _ _ 1 _ refl (past_two _ 16 _ _ 1 _ refl (past_three _ 0 _ _ _ 1 _ refl coordinator_welcomed)));

@@ -77,7 +77,7 @@ is_sent_again = record {
 pub a_frame_is_lost : AFrameIsLost
 a_frame_is_lost = record {
   world = v7;
-  run = (v6, (w5, opened_run, is_lost), is_sent_again);
+  run = (v6, (w5, opened_run, refl, is_lost), refl, is_sent_again);
   empty = empty_disks;
   proxy = (memory.OfProxy (fresh fence), got_past _ 1 _ 0 _ refl (got_here _ 0 _));
   coordinator = (memory.OfCoord new_coordinator, got_here _ 1 _);

@@ -302,7 +302,7 @@ pub opens : TurnRun w0 opening w5
 opens = record { told = sent greeted_once; is = (initial, opens_all); remarks = refl; moment = refl }
 
 abbrev pub opened_run : Run setup opened w5
-opened_run = (w0, initial, opens)
+opened_run = (w0, initial, refl, opens)
 
 -- ---- after it
 

@@ -82,7 +82,7 @@ starts = record {
 pub a_proxy_starts_again : AProxyStartsAgain
 a_proxy_starts_again = record {
   world = w7;
-  run = (w6, (w5, opened_run, stops), starts);
+  run = (w6, (w5, opened_run, refl, stops), refl, starts);
   empty = empty_disks;
   proxy = (memory.OfProxy (fresh second_fence), got_here _ 0 _);
   coordinator = (memory.OfCoord new_coordinator, past_three _ 0 _ _ _ 1 _ refl coordinator_opened);

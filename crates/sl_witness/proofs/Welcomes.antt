@@ -122,7 +122,7 @@ greets = record {
 }
 
 abbrev pub greeted_run : Run setup greeted w6
-greeted_run = (w5, opened_run, greets)
+greeted_run = (w5, opened_run, refl, greets)
 
 -- ---- the proxy
 
@@ -174,7 +174,7 @@ is_welcomed = record {
 }
 
 abbrev pub welcomed_run : Run setup welcomed w7
-welcomed_run = (w6, greeted_run, is_welcomed)
+welcomed_run = (w6, greeted_run, refl, is_welcomed)
 
 -- ---- after it
 
