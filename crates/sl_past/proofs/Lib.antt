@@ -1,0 +1,5 @@
+pub mod Texts
+pub mod Cuts
+pub mod Steps
+pub mod Spelling
+pub mod Others
