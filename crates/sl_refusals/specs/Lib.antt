@@ -1,0 +1,16 @@
+pub mod Packets
+pub mod Volumes
+pub mod Effects
+pub mod Answers
+pub mod Sequences
+pub mod Frames
+pub mod Flushes
+pub mod Drops
+pub mod Requests
+pub mod Bytes
+pub mod Names
+pub mod Fences
+pub mod Ends
+pub mod Memories
+pub mod Places
+pub mod Grants
