@@ -1,0 +1,5 @@
+use Rattle.sl_operations.proofs.CutFinishes.{a_lost_finish_is_done}
+use Rattle.sl_operations.proofs.a_lost_finish_is_done.Goals as goal
+
+pub returns : goal.returns
+returns c = a_lost_finish_is_done

@@ -1,0 +1,5 @@
+use Rattle.sl_operations.proofs.CutLocks.{a_lost_lock_is_done}
+use Rattle.sl_operations.proofs.a_lost_lock_is_done.Goals as goal
+
+pub returns : goal.returns
+returns c = a_lost_lock_is_done
