@@ -10,7 +10,7 @@ use Rattle.sl_machine.specs.Coordinators.{welcome}
 use Rattle.sl_world.specs.declared.coordinator.Coordinator.{Coordinator}
 use Rattle.sl_world.specs.declared.step.Step.{Step}
 use Rattle.sl_world.specs.declared.step.StepFault.{StepFault}
-use Rattle.sl_world.specs.declared.step.StepFault.TheVariants.{NotBuilt}
+use Rattle.sl_world.specs.declared.step.StepFault.TheVariants.{NotBuilt, Spent, NoMemory}
 use Rattle.sl_world.specs.Acting.{IsStep}
 use Rattle.sl_world.specs.Sites.{site_of, seen_by}
 
@@ -42,10 +42,11 @@ greeting c f = if nat_lt f.fence c.site.fence then [] else welcome f.fence ∷ [
 -- ---- what is claimed of a step
 
 -- Whatever its log has beside operations, what it does for the frame is a step that the machine says. Only what is done
--- for a Hello is built.
+-- for a Hello is built, and no count is spent.
 abbrev pub GivesStep : Coordinator → Coordinator → Frame → Result Step StepFault → Type 0
 GivesStep old new f (Ok step) =
     (x : Scene) (a : Actor) (e : ℕ) → x.actor ≡ 1 → a.memory ≡ Some (OfCoord (held old)) → NoOperation a.records
     → IsStep x a (Given f e) step.frames step.notes (OfCoord (held new)) NoOperation
 GivesStep old new f (Err NotBuilt) = f.body ≡ body.Hello → ⊥
-GivesStep old new f (Err other) = Unit {0}
+GivesStep old new f (Err NoMemory) = Unit {0}
+GivesStep old new f (Err Spent) = ⊥

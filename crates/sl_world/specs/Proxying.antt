@@ -1,5 +1,5 @@
 -- What a proxy of GETATTR calls holds as the machine sees it, and what is claimed of its steps.
-use Rattle.std.specs.Prelude.{◌≡◌, ℕ, ◌+◌, ◌^◌, ◌<◌, ◌≤◌, ◌++◌, List, [], ◌∷◌, Option, Some, None, Result, Ok, Err, Bool, true, false, not, map as each, min, nat_le, if◌then◌else◌}
+use Rattle.std.specs.Prelude.{◌≡◌, ℕ, ◌+◌, ◌-◌, ◌^◌, ◌<◌, ◌≤◌, ◌++◌, List, [], ◌∷◌, Option, Some, None, Result, Ok, Err, Bool, true, false, not, map as each, min, nat_le, if◌then◌else◌}
 use Rattle.std.specs.Ordering.{nat_cmp}
 use Rattle.std.specs.FinMap.{FinMap}
 use Rattle.std.specs.FinMap as map
@@ -35,7 +35,7 @@ use Rattle.sl_world.specs.declared.look.Look.{Look}
 use Rattle.sl_world.specs.declared.proxy.Proxy.{Proxy}
 use Rattle.sl_world.specs.declared.step.Step.{Step}
 use Rattle.sl_world.specs.declared.step.StepFault.{StepFault}
-use Rattle.sl_world.specs.declared.step.StepFault.TheVariants.{NotBuilt}
+use Rattle.sl_world.specs.declared.step.StepFault.TheVariants.{NotBuilt, Spent, NoMemory}
 use Rattle.sl_world.specs.Acting.{IsStep}
 
 -- a map whose values are seen otherwise
@@ -181,11 +181,12 @@ abbrev pub IsTaken : Datagram → Type 0
 IsTaken (IsAsked q) = IsGetattr q
 IsTaken other = Unit {0}
 
--- What it does for a datagram is a step that the machine says.
+-- What it does for a datagram is a step that the machine says. The last tag that a number has is never used.
 abbrev pub GivesArrival : Proxy → Proxy → ℕ → ℕ → List ℕ → Result Step StepFault → Type 0
 GivesArrival old new n client bytes (Ok step) = MayStep old n (Arrives n client bytes) step.frames step.notes new × (new.setup ≡ old.setup)
 GivesArrival old new n client bytes (Err NotBuilt) = HasServers old.setup → IsTaken (datagram bytes) → ⊥
-GivesArrival old new n client bytes (Err other) = Unit {0}
+GivesArrival old new n client bytes (Err Spent) = old.next_tag ≡ 2 ^ 64 - 1
+GivesArrival old new n client bytes (Err NoMemory) = Unit {0}
 
 -- a GETATTR call about the object of a handle is admitted
 pub record IsAdmitted (p : Proxy) (bytes : List ℕ) (xid : ℕ) (cred : Cred) (h : Handle) : Type 0 where
@@ -210,4 +211,5 @@ IsUsable f other = ⊥
 abbrev pub GivesUse : Proxy → Proxy → Frame → ℕ → Result Step StepFault → Type 0
 GivesUse old new f e (Ok step) = ((n : ℕ) → MayStep old n (Given f e) step.frames step.notes new) × (new.setup ≡ old.setup)
 GivesUse old new f e (Err NotBuilt) = IsUsable f f.«body» → ⊥
-GivesUse old new f e (Err other) = Unit {0}
+GivesUse old new f e (Err Spent) = ⊥
+GivesUse old new f e (Err NoMemory) = Unit {0}

@@ -28,7 +28,7 @@ use Rattle.sl_machine.specs.Packets.{outer}
 use Rattle.sl_world.specs.declared.directory.Directory.{Directory}
 use Rattle.sl_world.specs.declared.step.Step.{Step}
 use Rattle.sl_world.specs.declared.step.StepFault.{StepFault}
-use Rattle.sl_world.specs.declared.step.StepFault.TheVariants.{NotBuilt}
+use Rattle.sl_world.specs.declared.step.StepFault.TheVariants.{NotBuilt, Spent, NoMemory}
 use Rattle.sl_world.specs.Acting.{IsStep}
 use Rattle.sl_world.specs.Sites.{site_of, seen_by}
 
@@ -106,7 +106,8 @@ IsBuilt other = Unit {0}
 abbrev pub Serves : Directory → Directory → Frame → Forwarded → Result Step StepFault → Type 0
 Serves old new f what (Ok step) = IsBuilt what × (step.frames ≡ unless_passed old f (answer_of old f what)) × (step.notes ≡ []) × (new ≡ served old f)
 Serves old new f what (Err NotBuilt) = IsBuilt what → ⊥
-Serves old new f what (Err other) = Unit {0}
+Serves old new f what (Err NoMemory) = Unit {0}
+Serves old new f what (Err Spent) = ⊥
 
 -- what it does for the frame is a step that the machine says, where it is a directory server
 abbrev pub MayAnswer : Directory → Directory → Frame → Step → Type 0
@@ -115,8 +116,9 @@ MayAnswer old new f step =
     → IsStep x a (Given f e) step.frames step.notes (OfSite (site_of new.site)) (HasRoot old.volume)
 
 -- Whatever else its records are, what it does for the frame is a step that the machine says. What is done for a forwarded
--- GETATTR is built.
+-- GETATTR is built, and no count is spent.
 abbrev pub GivesAnswer : Directory → Directory → Frame → Result Step StepFault → Type 0
 GivesAnswer old new f (Ok step) = MayAnswer old new f step × (new.actor ≡ old.actor) × (new.volume ≡ old.volume)
 GivesAnswer old new f (Err NotBuilt) = IsBuilt (forwarded f.«body») → ⊥
-GivesAnswer old new f (Err other) = Unit {0}
+GivesAnswer old new f (Err NoMemory) = Unit {0}
+GivesAnswer old new f (Err Spent) = ⊥

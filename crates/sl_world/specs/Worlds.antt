@@ -1,13 +1,17 @@
 -- What the ensemble holds as the machine sees it, and what is claimed of its events.
-use Rattle.std.specs.Prelude.{◌≡◌, ℕ, ◌+◌, ◌≤◌, List, [], ◌∷◌, ◌++◌, Some, Result, Ok, Err, true, false, length}
+use Rattle.std.specs.Prelude.{◌≡◌, ℕ, ◌+◌, ◌-◌, ◌^◌, ◌==◌, ◌≤◌, List, [], ◌∷◌, ◌++◌, Some, None, Result, Ok, Err, Bool, true, false, not, ◌||◌, length}
 use Rattle.std.specs.Ordering.{nat_cmp, eq_by_cmp}
 use Rattle.std.specs.FinMap.{FinMap}
 use Rattle.std.specs.FinMap as map
 use Rattle.sl_defs.specs.Histories.{Opens, Happens}
 use Rattle.sl_defs.specs.declared.setup.Setup.{Setup}
 use Rattle.sl_defs.specs.declared.event.Event.{Event}
+use Rattle.sl_defs.specs.declared.event.Event.TheVariants as event
 use Rattle.sl_frames.specs.declared.frame.Frame.{Frame}
-use Rattle.sl_history.specs.Turns.{Remark, Turn, History}
+use Rattle.sl_frames.specs.declared.body.Body.TheVariants as body
+use Rattle.sl_history.specs.Turns.{Remark, Sent, Turn, History}
+use Rattle.sl_history.specs.Arrivals.{datagram}
+use Rattle.sl_history.specs.Frames.{named_number}
 use Rattle.sl_machine.specs.Records.{Record}
 use Rattle.sl_machine.specs.Memory.{Memory, Actor, OfProxy, OfCoord, OfSite}
 use Rattle.sl_machine.specs.World as machine
@@ -16,12 +20,14 @@ use Rattle.sl_machine.specs.Proxies.{hello}
 use Rattle.sl_machine.specs.Runs.{Run, TurnRun, Steps, is_up}
 use Rattle.sl_world.specs.declared.flight.Flying.{Flying}
 use Rattle.sl_world.specs.declared.world.World.{World}
+use Rattle.sl_world.specs.declared.world.WorldFault.{WorldFault}
+use Rattle.sl_world.specs.declared.world.WorldFault.TheVariants.{UnknownFrame, NotBuilt, Spent, NoMemory}
 use Rattle.sl_world.specs.declared.step.Step.{Step}
 use Rattle.sl_world.specs.declared.step.StepFault.{StepFault}
 use Rattle.sl_world.specs.Sites.{site_of}
 use Rattle.sl_world.specs.Coordinating.{held, NoOperation}
-use Rattle.sl_world.specs.Serving.{HasRoot}
-use Rattle.sl_world.specs.Proxying.{mapped, proxy_of}
+use Rattle.sl_world.specs.Serving.{HasRoot, IsBuilt, forwarded}
+use Rattle.sl_world.specs.Proxying.{IsTaken, IsUsable, mapped, proxy_of}
 
 abbrev pub flying_of : Flying → machine.Flying
 flying_of f = record { frame = f.frame; event = f.event }
@@ -124,6 +130,47 @@ pub record GoesOn (v v' : World) (e : Event) (rs : List Remark) : Type 0 where
   pub leads : (w : machine.World) → Stands v w → Leads v v' e rs w
   pub setup : v'.proxy.setup ≡ v.proxy.setup
 
+-- ---- what is claimed of an event
+
+-- the last number that a u64 has
+abbrev pub last_number : ℕ
+last_number = 2 ^ 64 - 1
+
+-- the next event, frame or request would need a number that passes the end of its type
+pub data IsSpent (v : World) : Type 0 where
+  HasLastEvent : v.event ≡ last_number → IsSpent v
+  HasLastFrame : v.next_frame ≡ last_number → IsSpent v
+  HasLastTag : v.proxy.next_tag ≡ last_number → IsSpent v
+
+-- the frame that the event names, if it names one, is in flight
+abbrev pub KnowsFrame : World → Event → Type 0
+KnowsFrame v e = (k : ℕ) → named_number (Happens e) ≡ Some k → map.contains_key v.flight k ≡ true
+
+-- what its receiver does for a frame is built
+pub data IsBuiltFrame (v : World) (f : Frame) : Type 0 where
+  ForProxy : f.to ≡ 0 → IsUsable f f.«body» → IsBuiltFrame v f
+  ForCoordinator : f.to ≡ 1 → f.«body» ≡ body.Hello → IsBuiltFrame v f
+  ForDirectory : f.to ≡ v.directory.actor → 2 ≤ v.directory.actor → IsBuilt (forwarded f.«body») → IsBuiltFrame v f
+
+-- In a volume with one directory server datagrams are built that are no calls, need no server or are a GETATTR, and frames
+-- that are given.
+abbrev pub IsBuiltEvent : World → Event → Type 0
+IsBuiltEvent v (event.Call client bytes) = (v.proxy.setup.dirs ≡ 1) × IsTaken (datagram bytes)
+IsBuiltEvent v (event.Give k) = (f : Flying) × (map.get v.flight k ≡ Some f) × IsBuiltFrame v f.frame
+IsBuiltEvent v other = ⊥
+
+-- The event and its notes are a turn of the machine; or the frame that it names isn't in flight, and nothing changed.
+abbrev pub GivesEvent : World → World → Event → Result (List Remark) WorldFault → Type 0
+GivesEvent old new e (Ok notes) = GoesOn old new e notes × KnowsFrame old e
+GivesEvent old new e (Err (UnknownFrame k)) = (named_number (Happens e) ≡ Some k) × (map.get old.flight k ≡ None) × (new ≡ old)
+GivesEvent old new e (Err NotBuilt) = KnowsFrame old e × (IsBuiltEvent old e → ⊥)
+GivesEvent old new e (Err Spent) = KnowsFrame old e × IsSpent old
+GivesEvent old new e (Err NoMemory) = Unit {0}
+
+-- a call waits, or the proxy isn't welcomed
+abbrev pub is_busy : World → Bool
+is_busy v = not (map.len v.proxy.pending == 0) || not v.proxy.welcomed
+
 -- ---- the opening
 
 -- a volume with one directory server, and so many data servers as there may be
@@ -151,3 +198,10 @@ opened s = record {
   event = 0;
   moment = record { sec = 0; nsec = 0 };
 }
+
+-- Such a volume is opened so, and its first Hello is noted.
+abbrev pub GivesOpening : Setup → Result (World × List Remark) WorldFault → Type 0
+GivesOpening s (Ok x) = IsSmall s × (x.0 ≡ opened s) × (x.1 ≡ Sent 1 (hello first_fence) ∷ [])
+GivesOpening s (Err NotBuilt) = IsSmall s → ⊥
+GivesOpening s (Err NoMemory) = Unit {0}
+GivesOpening s (Err other) = ⊥

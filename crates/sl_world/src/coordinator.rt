@@ -1,6 +1,5 @@
 //! The coordinator, as far as it welcomes proxies.
-ghost use Rattle.std.specs.Prelude.{◌≡◌, [], Err, IfOk};
-ghost use Rattle.sl_world.specs.declared.step.StepFault.TheVariants.{NotBuilt};
+ghost use Rattle.std.specs.Prelude.{◌≡◌, [], IfOk};
 ghost use Rattle.sl_machine.specs.Coordinators as machine;
 ghost use Rattle.sl_world.specs.Coordinating.{GivesStep, greeted, greeting};
 
@@ -8,6 +7,7 @@ use crate::actors::{COORDINATOR, PROXY};
 use crate::site::Site;
 use crate::step::{Step, StepFault};
 use sl_frames::{Body, Frame};
+use sl_types::NoMemory;
 use std::alloc::Global;
 
 /// A coordinator without intents: what it has seen, and whether the proxy was heard since its opening.
@@ -36,11 +36,10 @@ fn welcome(fence: u64) -> Frame
 
 impl Coordinator {
     /// A Hello of an older fence is passed over. Any other is answered by a Welcome, since no operation is unfinished.
-    fn greet(&mut self, alloc: Global, frame: &Frame) -> Result<Step, StepFault>
+    fn greet(&mut self, alloc: Global, frame: &Frame) -> Result<Step, NoMemory>
         ensures sent { IfOk result (λ step. step.frames ≡ greeting self.old frame.now) }
         ensures noted { IfOk result (λ step. step.notes ≡ []) }
         ensures held { IfOk result (λ step. self.new ≡ greeted self.old frame.now) }
-        ensures built { result ≡ Err NotBuilt → ⊥ }
     {
         if frame.fence < self.site.fence {
             return Ok(Step::silent(alloc));
@@ -57,7 +56,7 @@ impl Coordinator {
         ensures gives { GivesStep self.old self.new frame.now result }
     {
         match frame.body {
-            Body::Hello => self.greet(alloc, frame),
+            Body::Hello => Ok(self.greet(alloc, frame)?),
             _ => Err(StepFault::NotBuilt),
         }
     }

@@ -29,7 +29,7 @@ pub use looks::Looks;
 pub use proxy::Proxy;
 pub use site::Site;
 pub use step::{Frames, Notes, Step, StepFault};
-pub use world::World;
+pub use world::{World, WorldFault};
 
 #[cfg(test)]
 mod tests;

@@ -1,7 +1,6 @@
 //! What an actor's step sends and notes.
-ghost use Rattle.std.specs.Prelude.{◌≡◌, [], ◌∷◌, map, Err, IfOk};
+ghost use Rattle.std.specs.Prelude.{◌≡◌, [], ◌∷◌, map, IfOk};
 ghost use Rattle.sl_past.specs.Words.{remark_of};
-ghost use Rattle.sl_world.specs.declared.step.StepFault.TheVariants.{NotBuilt};
 
 use sl_frames::Frame;
 use sl_past::Remark;
@@ -118,16 +117,23 @@ impl Step {
     }
 
     /// One frame is sent.
-    pub fn sending(alloc: Global, frame: Frame) -> Result<Step, StepFault>
+    pub fn sending(alloc: Global, frame: Frame) -> Result<Step, NoMemory>
         ensures frames { IfOk result (λ step. step.frames ≡ frame ∷ []) }
         ensures notes { IfOk result (λ step. step.notes ≡ []) }
-        ensures built { result ≡ Err NotBuilt → ⊥ }
     {
         let notes = Notes::none(alloc);
-        match Frames::one(alloc, frame) {
-            Ok(frames) => Ok(Step { frames, notes }),
-            Err(_) => Err(StepFault::NoMemory),
-        }
+        let frames = Frames::one(alloc, frame)?;
+        Ok(Step { frames, notes })
+    }
+
+    /// One thing is noted.
+    pub fn noting(alloc: Global, note: Remark) -> Result<Step, NoMemory>
+        ensures frames { IfOk result (λ step. step.frames ≡ []) }
+        ensures notes { IfOk result (λ step. step.notes ≡ remark_of note ∷ []) }
+    {
+        let frames = Frames::none(alloc);
+        let notes = Notes::one(alloc, note)?;
+        Ok(Step { frames, notes })
     }
 }
 
@@ -139,4 +145,15 @@ pub enum StepFault {
     /// A count would pass its type's end.
     Spent,
     NoMemory,
+}
+
+impl From<NoMemory> for StepFault {
+    ghost use Rattle.std.specs.Prelude.{◌≡◌};
+    ghost use Rattle.sl_world.specs.declared.step.StepFault.TheVariants.{NoMemory};
+
+    ghost from_gives = { λ _ fault. fault ≡ NoMemory };
+
+    fn from(_: NoMemory) -> StepFault {
+        StepFault::NoMemory
+    }
 }

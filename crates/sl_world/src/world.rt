@@ -17,3 +17,15 @@ pub struct World {
     pub event: u64,
     pub moment: Time,
 }
+
+/// Why an event, or an opening, isn't performed.
+#[derive(Clone, Copy, Debug, PartialEq, Eq)]
+pub enum WorldFault {
+    /// The event names the frame of this number, which isn't in flight.
+    UnknownFrame(u64),
+    /// What the event or the volume asks for isn't built.
+    NotBuilt,
+    /// A number would pass its type's end.
+    Spent,
+    NoMemory,
+}
