@@ -1,0 +1,13 @@
+pub mod Proper
+pub mod Kept
+pub mod Judging
+pub mod Proxying
+pub mod Coordinating
+pub mod Directing
+pub mod Storing
+pub mod Acting
+pub mod Moving
+pub mod Stepping
+pub mod Opened
+pub mod Turning
+pub mod Alike
