@@ -217,10 +217,10 @@ turn_alike S w t w' past h p = record {
 
 -- ---- a run
 
-abbrev Anything : Frame → Type 0
+abbrev pub Anything : Frame → Type 0
 Anything f = Unit {0}
 
-sends_anything : (x : Happening) (w : World) → MaySend x w Anything
+pub sends_anything : (x : Happening) (w : World) → MaySend x w Anything
 sends_anything (Opens setup) w = λ fence. tt
 sends_anything (Reaches moment) w = tt
 sends_anything (Happens e) w = λ i acts f own. tt

@@ -11,3 +11,4 @@ pub mod Stepping
 pub mod Opened
 pub mod Turning
 pub mod Alike
+pub mod Counting

@@ -4,7 +4,17 @@ use Rattle.sl_defs.specs.declared.setup.Setup.{Setup}
 use Rattle.sl_history.specs.Turns.{History}
 use Rattle.sl_machine.specs.World.{World}
 use Rattle.sl_machine.specs.Runs.{Run}
-use Rattle.sl_transport.specs.Flying.{FliesAlike}
+use Rattle.sl_transport.specs.Flying.{FliesAlike, FlyWhenNamed, AreNumbered}
+use Rattle.sl_transport.specs.Moments.{MomentsRise}
 
 abbrev pub FramesFlyAlike : Type 0
 FramesFlyAlike = (setup : Setup) (h : History) (w : World) → Run setup h w → FliesAlike h w
+
+abbrev pub FramesAreGivenInFlight : Type 0
+FramesAreGivenInFlight = (setup : Setup) (h : History) (w : World) → Run setup h w → FlyWhenNamed h
+
+abbrev pub FramesAreNumbered : Type 0
+FramesAreNumbered = (setup : Setup) (h : History) (w : World) → Run setup h w → AreNumbered h
+
+abbrev pub AllMomentsRise : Type 0
+AllMomentsRise = (setup : Setup) (h : History) (w : World) → Run setup h w → MomentsRise h w

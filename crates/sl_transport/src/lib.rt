@@ -3,4 +3,4 @@
 
 mod laws;
 
-pub use laws::frames_fly_alike;
+pub use laws::{frames_are_given_in_flight, frames_are_numbered, frames_fly_alike, moments_rise};
