@@ -12,3 +12,6 @@ pub mod Opened
 pub mod Turning
 pub mod Alike
 pub mod Counting
+pub mod Ups
+pub mod Opening
+pub mod Sending

@@ -276,7 +276,7 @@ followed S e w n w' l named p = record {
   own = p.own;
 }
 
-happened : (S : Frame → Type 0) (x : Happening) (w : World) (n : Told) (w' : World) → MaySend x w S → HoldOwn w.actors → IsTurn x w w' n → Happened S x w n w'
+pub happened : (S : Frame → Type 0) (x : Happening) (w : World) (n : Told) (w' : World) → MaySend x w S → HoldOwn w.actors → IsTurn x w w' n → Happened S x w n w'
 happened S (Opens setup) w n w' sends own is = opened S setup w n w' (each_starts S sends (actors_of setup) w nothing w' n own is.1)
 happened S (Reaches moment) w n w' sends own is = reached S moment w n w' own is.0 is.1 is.2
 happened S (Happens e) w n w' sends own is = followed S e w n w' (lands e w) (has_named e w w' n is) (follows_move S e (begun w) w' n sends own is)

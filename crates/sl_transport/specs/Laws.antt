@@ -6,6 +6,7 @@ use Rattle.sl_machine.specs.World.{World}
 use Rattle.sl_machine.specs.Runs.{Run}
 use Rattle.sl_transport.specs.Flying.{FliesAlike, FlyWhenNamed, AreNumbered}
 use Rattle.sl_transport.specs.Moments.{MomentsRise}
+use Rattle.sl_transport.specs.Acting.{AreUpAlike, SendRightly}
 
 abbrev pub FramesFlyAlike : Type 0
 FramesFlyAlike = (setup : Setup) (h : History) (w : World) → Run setup h w → FliesAlike h w
@@ -18,3 +19,9 @@ FramesAreNumbered = (setup : Setup) (h : History) (w : World) → Run setup h w 
 
 abbrev pub AllMomentsRise : Type 0
 AllMomentsRise = (setup : Setup) (h : History) (w : World) → Run setup h w → MomentsRise h w
+
+abbrev pub ActorsAreUpAlike : Type 0
+ActorsAreUpAlike = (setup : Setup) (h : History) (w : World) → Run setup h w → AreUpAlike h w
+
+abbrev pub FramesAreSentByActors : Type 0
+FramesAreSentByActors = (setup : Setup) (h : History) (w : World) → Run setup h w → SendRightly h

@@ -3,4 +3,7 @@
 
 mod laws;
 
-pub use laws::{frames_are_given_in_flight, frames_are_numbered, frames_fly_alike, moments_rise};
+pub use laws::{
+    actors_are_up_alike, frames_are_given_in_flight, frames_are_numbered,
+    frames_are_sent_by_actors, frames_fly_alike, moments_rise,
+};
