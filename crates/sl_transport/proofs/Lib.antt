@@ -1,0 +1,17 @@
+pub mod Proper
+pub mod Kept
+pub mod Judging
+pub mod Proxying
+pub mod Coordinating
+pub mod Directing
+pub mod Storing
+pub mod Acting
+pub mod Moving
+pub mod Stepping
+pub mod Opened
+pub mod Turning
+pub mod Alike
+pub mod Counting
+pub mod Ups
+pub mod Opening
+pub mod Sending

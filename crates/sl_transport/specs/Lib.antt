@@ -1,0 +1,4 @@
+pub mod Flying
+pub mod Moments
+pub mod Acting
+pub mod Laws
