@@ -1,7 +1,6 @@
 -- What is noted of datagrams that no server is asked about: the proxy's one segment for them.
 use Rattle.std.proofs.Common.{◌≡◌, ℕ, ◌+◌, ◌==◌, Bool, true, false, not, T, List, [], ◌∷◌, ◌++◌, Option, Some, None, inl, inr, refl, ap, subst, sym, ◌∙◌, nat_le, if◌then◌else◌}
 use Rattle.std.specs.FinMap as map
-use Rattle.sl_defs.specs.Histories.{Happening, Happens}
 use Rattle.sl_defs.specs.declared.event.Event.TheVariants as event
 use Rattle.sl_history.specs.Turns.{Remark, Turn}
 use Rattle.sl_history.specs.Turns as note
@@ -10,7 +9,7 @@ use Rattle.sl_frames.specs.Actors.{is_directory, is_data}
 use Rattle.sl_machine.specs.Memory.{Proxy, Actor}
 use Rattle.sl_machine.specs.World.{World, Task, Given, Arrives, Goes, Wakes, Ticks, Opening, Scene, Segment, Told, nothing, scene, begun, played, told}
 use Rattle.sl_machine.specs.Proxies.{arrives, notes, still, with_call, waiting_for, ProxyRow, IsTaken, IsGoing, IsWaking, IsUsed, IsRenewed, IsGreeted, IsIgnored, IsSentAgain}
-use Rattle.sl_machine.specs.Runs.{May, ByProxy, ByCoordinator, ByDirectory, ByStore, ByOpenedProxy, ByOpenedCoordinator, ByOpenedDirectory, ByOpenedStore, Steps, Plays, Ends, Whole, Faulted, IsSpent, Follows, IsTurn, TurnRun, remarks_of, is_up}
+use Rattle.sl_machine.specs.Runs.{May, ByProxy, ByCoordinator, ByDirectory, ByStore, ByOpenedProxy, ByOpenedCoordinator, ByOpenedDirectory, ByOpenedStore, Plays, Ends, Whole, Faulted, IsSpent, Follows, IsTurn, remarks_of, is_up}
 use Rattle.sl_arrivals.specs.Arrivals.{AreNotes, AreNotesIf, ArrivalsAreNoted}
 
 -- ---- tasks

@@ -1,6 +1,5 @@
 -- Datagrams in a history: the turn's law, where the history says what the world is.
-use Rattle.std.proofs.Common.{◌≡◌, ℕ, ◌+◌, List, [], ◌∷◌, refl, ap, subst, sym, ◌∙◌}
-use Rattle.std.specs.FinMap as map
+use Rattle.std.proofs.Common.{◌≡◌, ◌+◌, [], ◌∷◌, refl, subst, sym}
 use Rattle.sl_defs.specs.Histories.{Happening, Opens, Reaches, Happens, event_count}
 use Rattle.sl_defs.specs.declared.event.Event.{Event}
 use Rattle.sl_defs.specs.declared.event.Event.TheVariants as event
@@ -8,7 +7,7 @@ use Rattle.sl_history.specs.Turns.{Turn, History, events}
 use Rattle.sl_history.specs.Frames as history
 use Rattle.sl_history.specs.Arrivals.{datagram}
 use Rattle.sl_machine.specs.World.{World}
-use Rattle.sl_machine.specs.Runs.{TurnRun, is_up}
+use Rattle.sl_machine.specs.Runs.{TurnRun}
 use Rattle.sl_transport.specs.Flying.{FliesAlike}
 use Rattle.sl_transport.specs.Acting.{AreUpAlike}
 use Rattle.sl_transport.proofs.Alike.{flies_alike}
