@@ -1,0 +1,78 @@
+use super::*;
+use sl_types::Call;
+use std::test::Fail;
+
+/// A GETATTR of the handle `root`, made for nobody: xid 5, a call, RPC version 2, program 100003, version 3, procedure 1,
+/// no credential and no verifier.
+const GETATTR: &[u8] =
+    b"\0\0\0\x05\0\0\0\0\0\0\0\x02\0\x01\x86\xa3\0\0\0\x03\0\0\0\x01\0\0\0\0\0\0\0\0\0\0\0\0\0\0\0\0\0\0\0\x04root";
+
+/// How many bytes of it are its header.
+const HEADER: usize = 40;
+
+/// The reply that its arguments can't be read.
+const GARBAGE: &[u8] = b"\0\0\0\x05\0\0\0\x01\0\0\0\0\0\0\0\0\0\0\0\0\0\0\0\x04";
+
+/// A NULL call: xid 9 and procedure 0.
+const NULL: &[u8] =
+    b"\0\0\0\x09\0\0\0\0\0\0\0\x02\0\x01\x86\xa3\0\0\0\x03\0\0\0\0\0\0\0\0\0\0\0\0\0\0\0\0\0\0\0\0";
+
+/// Its empty result.
+const DONE: &[u8] = b"\0\0\0\x09\0\0\0\x01\0\0\0\0\0\0\0\0\0\0\0\0\0\0\0\0";
+
+/// A call of program 100004, with xid 9, and the reply that it isn't there.
+const MOUNT: &[u8] =
+    b"\0\0\0\x09\0\0\0\0\0\0\0\x02\0\x01\x86\xa4\0\0\0\x03\0\0\0\0\0\0\0\0\0\0\0\0\0\0\0\0\0\0\0\0";
+
+const UNAVAILABLE: &[u8] = b"\0\0\0\x09\0\0\0\x01\0\0\0\0\0\0\0\0\0\0\0\0\0\0\0\x01";
+
+#[test]
+fn a_call_is_asked(rt: HostRuntime) -> Result<(), Fail> {
+    match read_datagram(rt.alloc(), GETATTR)? {
+        Datagram::Asked(asked) => {
+            assert_eq!(rt; (asked.xid, asked.procedure), (5, 1));
+            assert_eq!(rt; (asked.cred.uid, asked.cred.gid), (65534, 65534));
+            match asked.call {
+                Call::Getattr { object } => assert_eq!(rt; object.as_slice(), b"root".as_slice()),
+                _ => assert!(rt; false),
+            }
+        }
+        _ => assert!(rt; false),
+    }
+    Ok(())
+}
+
+#[test]
+fn what_its_header_answers_is_answered(rt: HostRuntime) -> Result<(), Fail> {
+    for (call, reply) in [(NULL, DONE), (MOUNT, UNAVAILABLE)] {
+        match read_datagram(rt.alloc(), call)? {
+            Datagram::Answered(answer) => assert_eq!(rt; answer.as_slice(), reply),
+            _ => assert!(rt; false),
+        }
+    }
+    Ok(())
+}
+
+#[test]
+fn arguments_that_end_early_are_garbage(rt: HostRuntime) -> Result<(), Fail> {
+    for length in HEADER..GETATTR.len() {
+        match read_datagram(rt.alloc(), &GETATTR[..length])? {
+            Datagram::Answered(answer) => assert_eq!(rt; answer.as_slice(), GARBAGE),
+            _ => assert!(rt; false),
+        }
+    }
+    Ok(())
+}
+
+#[test]
+fn a_header_that_ends_early_is_junk(rt: HostRuntime) -> Result<(), Fail> {
+    for length in 0..HEADER {
+        assert!(rt;
+            matches!(
+                read_datagram(rt.alloc(), &GETATTR[..length])?,
+                Datagram::Junk
+            )
+        );
+    }
+    Ok(())
+}
