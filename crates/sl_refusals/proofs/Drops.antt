@@ -17,7 +17,7 @@ use Rattle.sl_history.specs.Licensed.{Licensed, may_be_lost}
 use Rattle.sl_examples.specs.Histories.{start, fence, opened, welcomed}
 use Rattle.sl_refusals.specs.Drops.{no_call, asked_up, asked_down, JunkIsToldApart, LossesAreToldApart}
 
-abbrev is_none : List Remark → Bool
+abbrev pub is_none : List Remark → Bool
 is_none [] = true
 is_none (r ∷ rs) = false
 

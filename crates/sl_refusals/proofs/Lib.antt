@@ -10,6 +10,7 @@ pub mod Sequences
 pub mod NamesComeAndGo
 pub mod Bytes
 pub mod Drops
+pub mod Crowds
 pub mod Flushes
 pub mod Fileids
 pub mod Given

@@ -5,7 +5,7 @@
 ghost use Rattle.sl_refusals.specs.Effects.{FileidsAreToldApart, KeptWritesAreToldApart, MomentsAreToldApart};
 ghost use Rattle.sl_refusals.specs.Answers.{EffectRepliesAreToldApart, LooksAreToldApart, CommitsAreToldApart, InstantRepliesAreToldApart, CallsAreToldApart};
 ghost use Rattle.sl_refusals.specs.Sequences.{NamesComeAndGo, BytesAreToldApart};
-ghost use Rattle.sl_refusals.specs.Drops.{JunkIsToldApart, LossesAreToldApart};
+ghost use Rattle.sl_refusals.specs.Drops.{JunkIsToldApart, LossesAreToldApart, CrowdsAreToldApart};
 ghost use Rattle.sl_refusals.specs.Flushes.{UnstableWritesAreToldApart, FlushRequestsAreToldApart, FlushesAreToldApart, WantOfFileidsIsToldApart};
 ghost use Rattle.sl_refusals.specs.Requests.{SendersAreToldApart, AnswersAreToldApart, FlightsAreToldApart, ServersAreToldApart, QuietFilesAreToldApart};
 ghost use Rattle.sl_refusals.specs.Bytes.{ReadBytesAreToldApart, UnstableEffectsAreToldApart};
@@ -75,6 +75,11 @@ pub fn junk_is_told_apart()
 /// What comes while the proxy is down is lost, and has to be; what comes while it is up, welcomed and has few calls isn't dropped.
 pub fn losses_are_told_apart()
     ensures { LossesAreToldApart }
+{}
+
+/// A call that finds 256 others waiting is dropped, and has to be; one that finds fewer isn't.
+pub fn crowds_are_told_apart()
+    ensures { CrowdsAreToldApart }
 {}
 
 /// A WRITE that may stay unstable isn't kept while few files have unstable writes.
