@@ -1,5 +1,5 @@
 -- The coordinator's steps for a Hello are those of the machine.
-use Rattle.std.proofs.Common.{◌≡◌, ℕ, ◌<◌, ◌||◌, Bool, true, false, T, List, [], ◌∷◌, ◌++◌, Some, Result, Ok, Err, IfOk, refl, ap, subst, sym, ◌∙◌, nat_lt, max, if◌then◌else◌}
+use Rattle.std.proofs.Common.{◌≡◌, ℕ, ◌<◌, ◌||◌, Bool, true, false, T, List, [], ◌∷◌, ◌++◌, Some, Ok, refl, ap, subst, sym, ◌∙◌, nat_lt, max, if◌then◌else◌}
 use Rattle.sl_records.specs.declared.coordinator.LogEntry.TheVariants as log
 use Rattle.sl_frames.specs.Actors.{is_proxy}
 use Rattle.sl_frames.specs.declared.frame.Frame.{Frame}
@@ -17,8 +17,6 @@ use Rattle.sl_world.proofs.Seeing.{seen_is, unseen}
 use Rattle.sl_world.proofs.Numbers.{not_less, twice, not_greater, same_by, less_by}
 use Rattle.sl_world.specs.Coordinating.{held, NoOperation, greeted, greeting, GivesStep}
 use Rattle.sl_world.specs.declared.step.Step.{Step}
-use Rattle.sl_world.specs.declared.step.StepFault.{StepFault}
-use Rattle.sl_world.specs.declared.step.StepFault.TheVariants.{NotBuilt, Spent, NoMemory}
 use Rattle.sl_world.specs.declared.coordinator.Coordinator.{Coordinator}
 
 -- ---- an empty queue
@@ -170,10 +168,3 @@ hears_hello c f hello x a e is memory none = by_age x a c f e (nat_lt f.fence c.
 
 pub gives_step : (c new : Coordinator) (f : Frame) (step : Step) → f.«body» ≡ body.Hello → step.frames ≡ greeting c f → step.notes ≡ [] → new ≡ greeted c f → GivesStep c new f (Ok step)
 gives_step c new f step hello sent noted is_now x a e is memory none = rw (sent, noted, is_now) (hears_hello c f hello x a e is memory none)
-
--- Whatever the answer to a Hello is, it is the machine's or it isn't that nothing is built for it.
-pub gives_result : (c new : Coordinator) (f : Frame) (r : Result Step StepFault) → f.«body» ≡ body.Hello → IfOk r (λ step. step.frames ≡ greeting c f) → IfOk r (λ step. step.notes ≡ []) → IfOk r (λ step. new ≡ greeted c f) → (r ≡ Err NotBuilt → ⊥) → GivesStep c new f r
-gives_result c new f (Ok step) hello sent noted is_now built = gives_step c new f step hello sent noted is_now
-gives_result c new f (Err NotBuilt) hello sent noted is_now built = λ is. absurd (built refl)
-gives_result c new f (Err Spent) hello sent noted is_now built = tt
-gives_result c new f (Err NoMemory) hello sent noted is_now built = tt
