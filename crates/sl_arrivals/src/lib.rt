@@ -1,6 +1,7 @@
 //! What is noted of datagrams that no server is asked about: that they are no calls, the replies that they have whatever
 //! the server holds, and that they found the proxy down.
 #![tactic(auto)]
+
 ghost use Rattle.sl_arrivals.specs.Arrivals.{ArrivalsAreNoted, RunsAnswerAtOnce};
 
 /// In the turn of a datagram that is no call that alone is noted, and in the turn of one that is answered whatever the

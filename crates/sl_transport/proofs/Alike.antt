@@ -193,11 +193,10 @@ turn_alike S w t w' past h p = record {
       ∙ ap is_some (sym (at k));
   sent = λ k f is.
       let both = sent_then (w.event + event_count t.happening) (among w.next_frame p.frames k) (get (flight_by t.happening w.flight) k) f (frame past k) (event_of_sending past k)
-          (λ old. h.sent k f (kept_by t.happening w.flight k f old)) (sym (at k) ∙ is) in
-      (
+      (λ old. h.sent k f (kept_by t.happening w.flight k f old)) (sym (at k) ∙ is) in (
         ap (λ o. or_else o (frame past k)) (new k) ∙ both.0,
         ap (λ o. or_else (event_if (events (t ∷ past)) o) (event_of_sending past k)) (new k)
-        ∙ ap (λ e. or_else (event_if (e + event_count t.happening) (among w.next_frame p.frames k)) (event_of_sending past k)) (sym h.event) ∙ both.1,
+            ∙ ap (λ e. or_else (event_if (e + event_count t.happening) (among w.next_frame p.frames k)) (event_of_sending past k)) (sym h.event) ∙ both.1,
       );
   next_frame = p.next_frame ∙ counts w.next_frame (frames past) (length p.frames) h.next_frame ∙ ap (λ n. frames past + n + 1) (sym counted);
   unsent = λ k above.

@@ -88,11 +88,10 @@ no_more n = omega arith
 pub are_numbered : (setup : Setup) (h : History) (w : World) → Run setup h w → AreNumbered h
 are_numbered setup [] w is = tt
 are_numbered setup (t ∷ past) w' (w, run, first, turn) =
-    let moves = turned setup past w t w' run turn in
-    (
+    let moves = turned setup past w t w' run turn in (
       are_numbered setup past w run,
       subst (AllNumbered t past []) (sym moves.remarks)
-      (all_numbered t past [] w.next_frame moves.frames moves.notes ((runs_alike setup past w run).alike.next_frame ∙ no_more (frames past)) moves.quiet),
+          (all_numbered t past [] w.next_frame moves.frames moves.notes ((runs_alike setup past w run).alike.next_frame ∙ no_more (frames past)) moves.quiet),
     )
 
 -- ---- moments rise

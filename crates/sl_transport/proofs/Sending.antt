@@ -104,8 +104,7 @@ pub send_rightly : (setup : Setup) (h : History) (w : World) → Run setup h w �
 send_rightly setup [] w is = tt
 send_rightly setup (t ∷ past) w' (w, run, first, turn) =
     let before = runs_alike setup past w run in
-    let moves = turn_moves (λ f. may_send past t.happening f ≡ true) w t w' (may_be_sent past w t.happening before.alike (up_alike setup past w run)) before.own turn in
-    (
+    let moves = turn_moves (λ f. may_send past t.happening f ≡ true) w t w' (may_be_sent past w t.happening before.alike (up_alike setup past w run)) before.own turn in (
       send_rightly setup past w run,
       subst (AllSentRightly past t) (sym moves.remarks) (all_rightly past t w.next_frame moves.frames moves.notes moves.each moves.quiet),
     )
