@@ -18,3 +18,4 @@ pub mod Opening
 pub mod Opened
 pub mod Following
 pub mod Handing
+mod Outside

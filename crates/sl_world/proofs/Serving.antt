@@ -1,5 +1,5 @@
 -- The steps of a directory server that has the root alone are those of the machine.
-use Rattle.std.proofs.Common.{◌≡◌, ℕ, ◌<◌, Bool, true, false, List, [], ◌∷◌, Option, Some, None, Ok, refl, sym, ap, ◌∙◌, nat_lt, max, ◌||◌, if◌then◌else◌}
+use Rattle.std.proofs.Common.{◌≡◌, ℕ, ◌<◌, Bool, true, false, List, [], ◌∷◌, Option, Some, None, Result, Ok, Err, refl, sym, ap, ◌∙◌, nat_lt, max, ◌||◌, if◌then◌else◌}
 use Rattle.std.proofs.lemmas.List.{append-nil}
 use Rattle.std.specs.FinMap.{get-empty}
 use Rattle.std.specs.Ordering.{nat_cmp}
@@ -23,6 +23,8 @@ use Rattle.sl_machine.specs.Runs.{ByDirectory}
 use Rattle.sl_world.specs.declared.directory.Directory.{Directory}
 use Rattle.sl_world.specs.declared.site.Site as code
 use Rattle.sl_world.specs.declared.step.Step.{Step}
+use Rattle.sl_world.specs.declared.step.StepFault.{StepFault}
+use Rattle.sl_world.specs.declared.step.StepFault.TheVariants.{NotBuilt, Spent, NoMemory}
 use Rattle.sl_world.specs.Acting.{IsStep, later}
 use Rattle.sl_world.specs.Sites.{bare, site_of, seen_by}
 use Rattle.sl_world.specs.Serving.{HasRoot, forwarded_call, forwarded_by, forwarded, answer_of, answered, served, IsBuilt, Serves, MayAnswer, GivesAnswer, look, root_alone}
@@ -216,3 +218,10 @@ gives_answer d new f step serves = gives_by d new f step serves.0 serves.1 serve
       ap (λ x. x.actor) is_now ∙ same_actor d (seen_by d.site f) (nat_lt f.fence d.site.fence),
       ap (λ x. x.volume) is_now ∙ same_volume d (seen_by d.site f) (nat_lt f.fence d.site.fence),
     )
+
+-- Whatever is served, it is the answer that is claimed.
+pub gives_result : (d new : Directory) (f : Frame) (r : Result Step StepFault) → Serves d new f (forwarded f.«body») r → GivesAnswer d new f r
+gives_result d new f (Ok step) serves = gives_answer d new f step serves
+gives_result d new f (Err NotBuilt) serves = serves
+gives_result d new f (Err NoMemory) serves = tt
+gives_result d new f (Err Spent) serves = serves

@@ -19,3 +19,7 @@ low_seen s f = if nat_lt s.fence f.fence then f.low else max s.low f.low
 -- a frame was seen whose fence is not older
 abbrev pub seen_by : Site → Frame → Site
 seen_by s f = record { fence = f.fence; low = low_seen s f }
+
+-- what was seen then, of any frame: one of an older fence changes nothing
+abbrev pub when_seen : Site → Frame → Site
+when_seen s f = if nat_lt f.fence s.fence then s else seen_by s f

@@ -32,4 +32,6 @@ pub use step::{Frames, Notes, Step, StepFault};
 pub use world::{World, WorldFault};
 
 #[cfg(test)]
+mod directory_tests;
+#[cfg(test)]
 mod tests;

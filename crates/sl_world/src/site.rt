@@ -1,6 +1,6 @@
 //! What an actor has seen of the proxy's fences and tags.
-ghost use Rattle.std.specs.Prelude.{◌≡◌, ◌≤◌};
-ghost use Rattle.sl_world.specs.Sites.{seen_by};
+ghost use Rattle.std.specs.Prelude.{◌≡◌};
+ghost use Rattle.sl_world.specs.Sites.{when_seen};
 
 use sl_frames::Frame;
 
@@ -13,15 +13,14 @@ pub struct Site {
 }
 
 impl Site {
-    /// A frame of its fence or of a greater one is seen. At a greater fence the low tag starts anew.
+    /// A frame is seen. At a greater fence the low tag starts anew, and a frame of an older fence changes nothing.
     pub fn see(&mut self, frame: &Frame)
-        requires { self.old.fence ≤ frame.now.fence }
-        ensures { self.new ≡ seen_by self.old frame.now }
+        ensures { self.new ≡ when_seen self.old frame.now }
     {
         if frame.fence > self.fence {
             self.fence = frame.fence;
             self.low = frame.low;
-        } else {
+        } else if frame.fence == self.fence {
             self.low = self.low.max(frame.low);
         }
     }
