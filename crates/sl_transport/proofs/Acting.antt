@@ -1,5 +1,5 @@
 -- Each segment that an actor may do is proper.
-use Rattle.std.proofs.Common.{◌≡◌, ℕ, Some, sym, subst, ◌∙◌}
+use Rattle.std.proofs.Common.{◌≡◌, sym, subst, ◌∙◌}
 use Rattle.sl_frames.specs.declared.frame.Frame.{Frame}
 use Rattle.sl_machine.specs.Memory.{Actor}
 use Rattle.sl_machine.specs.World.{Scene, Task, Segment}

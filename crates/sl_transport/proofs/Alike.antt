@@ -4,7 +4,7 @@ use Rattle.std.specs.Prelude.{is_some}
 use Rattle.std.proofs.lemmas.Bool.Decides.{nat_tests}
 use Rattle.std.specs.Ordering.{nat_cmp, eq_by_cmp}
 use Rattle.std.specs.Cmp.{nat_cmp_total}
-use Rattle.std.specs.FinMap.{FinMap, empty, get, insert, remove, contains_key, get-empty, get-insert, get-remove}
+use Rattle.std.specs.FinMap.{FinMap, get, insert, remove, contains_key, get-empty, get-insert, get-remove}
 use Rattle.sl_defs.specs.Histories.{Happening, Opens, Reaches, Happens, event_count}
 use Rattle.sl_defs.specs.declared.event.Event.TheVariants as event
 use Rattle.sl_defs.specs.declared.setup.Setup.{Setup}

@@ -1,5 +1,5 @@
 -- Each segment of the coordinator is proper.
-use Rattle.std.proofs.Common.{◌≡◌, ℕ, ◌==◌, ◌&&◌, ◌||◌, Bool, true, false, List, [], ◌∷◌, ◌++◌, Option, Some, None, cond, refl, sym, subst}
+use Rattle.std.proofs.Common.{◌≡◌, ◌==◌, ◌&&◌, ◌||◌, Bool, true, false, List, [], ◌∷◌, ◌++◌, Option, Some, None, cond, refl, sym, subst}
 use Rattle.std.specs.Prelude.{nat_le}
 use Rattle.sl_records.specs.declared.started.Started.{Started}
 use Rattle.sl_records.specs.declared.coordinator.LogEntry.TheVariants as log
@@ -13,8 +13,8 @@ use Rattle.sl_frames.specs.declared.body.Body.TheVariants as body
 use Rattle.sl_machine.specs.Records.{Record, OfLog, unfinished, decision_of, with_op}
 use Rattle.sl_machine.specs.Memory.{Site, Vote, Coord, Actor, OfCoord}
 use Rattle.sl_machine.specs.World.{Scene, Task, Proceeds, Segment}
-use Rattle.sl_machine.specs.Verdicts.{Verdict, OldFence, Stray, Finished, Parks, IsKept, BelowLow, Answers, for_coordinator, verdict, seen, keeping}
-use Rattle.sl_machine.specs.Coordinators.{still, heard_from, has_voted, all_voted, is_among, servers_of, locks_of, finals_of, frame_to, final, decided_frame, note_by, note_if, keeps_decision, decides, counts, granted_by, acknowledged_by, ends, on_undecided, on_decided, votes_on, votes, greets, takes, waits, is_started, done_for, by_verdict, admits, again_for, again, started_by, CoordinatorRow, IsRenewed, IsAdmitted, IsRefused, IsStarted, IsWelcomed, IsResting, IsSentAgain}
+use Rattle.sl_machine.specs.Verdicts.{Verdict, OldFence, IsKept, Answers, for_coordinator, verdict, seen, keeping}
+use Rattle.sl_machine.specs.Coordinators.{still, heard_from, has_voted, all_voted, is_among, servers_of, locks_of, finals_of, frame_to, final, decided_frame, note_by, note_if, keeps_decision, decides, granted_by, acknowledged_by, ends, on_undecided, on_decided, votes_on, votes, takes, waits, is_started, done_for, by_verdict, admits, again_for, again, started_by, CoordinatorRow, IsRenewed, IsAdmitted, IsRefused, IsStarted, IsWelcomed, IsResting, IsSentAgain}
 use Rattle.sl_transport.proofs.Proper.{Plain, Each, KeptIn, Proper, either, each_either, each_both}
 use Rattle.sl_transport.proofs.Kept.{kept_seen, kept_renewed, kept_put}
 use Rattle.sl_transport.proofs.Judging.{OfVerdict, of_verdict}

@@ -1,5 +1,5 @@
 -- Each segment of a directory server is proper.
-use Rattle.std.proofs.Common.{◌≡◌, ℕ, ◌==◌, ◌&&◌, ◌||◌, Bool, true, false, List, [], ◌∷◌, ◌++◌, Option, Some, None, cond, refl, sym, subst}
+use Rattle.std.proofs.Common.{◌≡◌, ℕ, ◌||◌, Bool, true, false, List, [], ◌∷◌, ◌++◌, Option, Some, None, cond, refl, sym, subst}
 use Rattle.std.specs.Prelude.{nat_lt}
 use Rattle.std.specs.List.{list_any}
 use Rattle.sl_defs.specs.declared.note.Choice.{Choice}
@@ -13,7 +13,7 @@ use Rattle.sl_machine.specs.Packets.{outer_call}
 use Rattle.sl_machine.specs.Records.{OfDir, Cells, cells_of, locked_in, last_finished, next_counter, counter_end, fileid_at}
 use Rattle.sl_machine.specs.Memory.{Site, Actor, OfSite}
 use Rattle.sl_machine.specs.World.{Scene, Task, Segment, quiet}
-use Rattle.sl_machine.specs.Verdicts.{Verdict, OldFence, Stray, Finished, Parks, IsKept, BelowLow, Answers, for_directory, verdict, seen, parked, is_operating, is_same_request, is_locked_for, answering, keeping}
+use Rattle.sl_machine.specs.Verdicts.{Verdict, OldFence, Stray, Finished, Parks, IsKept, BelowLow, Answers, for_directory, verdict, seen, parked, is_operating, is_same_request, is_locked_for, answering}
 use Rattle.sl_machine.specs.Directories.{again_acknowledged, answers, minted, none_left, mints, does_call, looks, forwarded_choice, serves, locks, finishes, done_for, by_verdict, admits, DirectoryRow, IsRenewed, IsAdmitted, IsTakenUp, IsFounded, IsOpen}
 use Rattle.sl_transport.proofs.Proper.{KeptIn, Proper, either}
 use Rattle.sl_transport.proofs.Kept.{kept_seen, kept_renewed, kept_put}

@@ -1,5 +1,5 @@
 -- What a verdict of a kept answer says: it is the one that is kept under the frame's tag.
-use Rattle.std.proofs.Common.{◌≡◌, ℕ, ◌==◌, ◌&&◌, Bool, true, false, Option, Some, None, refl, cond, not}
+use Rattle.std.proofs.Common.{◌≡◌, ℕ, ◌&&◌, Bool, true, false, Option, Some, None, refl, cond, not}
 use Rattle.std.specs.Prelude.{nat_lt, nat_le}
 use Rattle.std.specs.FinMap as map
 use Rattle.sl_frames.specs.declared.frame.Frame.{Frame}

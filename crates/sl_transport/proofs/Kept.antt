@@ -1,8 +1,7 @@
 -- Answers that are kept: as they are seen, put, renewed and restored.
-use Rattle.std.proofs.Common.{◌≡◌, ℕ, ◌==◌, ◌<◌, ◌≤◌, ◌&&◌, Bool, true, false, List, [], ◌∷◌, Option, Some, None, cond, refl, sym, ap, subst, ◌∙◌, arith}
+use Rattle.std.proofs.Common.{◌≡◌, ℕ, ◌==◌, ◌<◌, ◌≤◌, ◌&&◌, Bool, true, false, List, [], ◌∷◌, Option, Some, None, cond, refl, sym, ap, subst, arith}
 use Rattle.std.specs.Prelude.{nat_le, nat_lt, max}
 use Rattle.std.proofs.lemmas.Bool.Decides.{nat_tests}
-use Rattle.std.specs.declared.cmp.Ordering.TheVariants.{Equal}
 use Rattle.std.specs.Ordering.{nat_cmp, eq_by_cmp}
 use Rattle.std.specs.Cmp.{nat_cmp_total}
 use Rattle.std.specs.FinMap.{FinMap, empty, get, insert, retain_keys, get-empty, get-insert, get-retain_keys}
@@ -12,10 +11,10 @@ use Rattle.sl_records.specs.declared.directory.DirRecord.TheVariants as dir
 use Rattle.sl_frames.specs.declared.frame.Frame.{Frame}
 use Rattle.sl_frames.specs.declared.body.Body.TheVariants as body
 use Rattle.sl_history.specs.Frames.{or_else}
-use Rattle.sl_machine.specs.Records.{Record, OfDir, OfProxy, OfLog, OfData, decision_of, started_of}
+use Rattle.sl_machine.specs.Records.{Record, OfDir, decision_of, started_of}
 use Rattle.sl_machine.specs.Memory.{Site, Coord}
 use Rattle.sl_machine.specs.Verdicts.{seen, lowered, renewed, keeping}
-use Rattle.sl_machine.specs.Openings.{RestoredSite, RestoredCoord, restored, answer_if, answer_in, answer_of, decided_by, decided_for}
+use Rattle.sl_machine.specs.Openings.{RestoredSite, RestoredCoord, restored, answer_in, answer_of, decided_by, decided_for}
 use Rattle.sl_transport.proofs.Proper.{KeptIn}
 
 -- ---- of a frame, if there is one

@@ -1,5 +1,5 @@
 -- What openings note and send: what the last records say, and the proxy's Hello.
-use Rattle.std.proofs.Common.{◌≡◌, ℕ, ◌&&◌, Bool, true, false, List, [], ◌∷◌, Option, Some, None, refl, sym, subst, cond, length}
+use Rattle.std.proofs.Common.{ℕ, Bool, true, false, List, [], ◌∷◌, Option, Some, None, sym, subst, cond, length}
 use Rattle.std.specs.Prelude.{nat_lt}
 use Rattle.sl_records.specs.declared.started.Started.{Started}
 use Rattle.sl_records.specs.declared.coordinator.LogEntry.TheVariants as log
@@ -7,10 +7,9 @@ use Rattle.sl_records.specs.declared.directory.DirRecord.TheVariants as dir
 use Rattle.sl_frames.specs.declared.intent.What.{What}
 use Rattle.sl_frames.specs.declared.intent.What.TheVariants as what
 use Rattle.sl_frames.specs.declared.frame.Frame.{Frame}
-use Rattle.sl_history.specs.Turns.{Remark}
-use Rattle.sl_machine.specs.Records.{Record, OfProxy, OfLog, OfDir, OfData, started_of, with_op}
+use Rattle.sl_machine.specs.Records.{Record, OfLog, OfDir, started_of, with_op}
 use Rattle.sl_machine.specs.Memory.{Site, Store, Coord, Proxy, Actor}
-use Rattle.sl_machine.specs.World.{Scene, Task, Given, TakesUp, Arrives, Goes, Wakes, Ticks, Refuses, Proceeds, Opening, Founds, Segment}
+use Rattle.sl_machine.specs.World.{Scene, Task, Opening, Founds, Segment}
 use Rattle.sl_machine.specs.Coordinators.{note_by}
 use Rattle.sl_machine.specs.Coordinators as coordinators
 use Rattle.sl_machine.specs.Directories as directories
@@ -20,7 +19,7 @@ use Rattle.sl_machine.specs.Proxies.{hello}
 use Rattle.sl_machine.specs.Openings.{decided_note, notes_in, last_notes, settled}
 use Rattle.sl_machine.specs.Runs.{May, ByProxy, ByCoordinator, ByDirectory, ByStore, ByOpenedProxy, ByOpenedCoordinator, ByOpenedDirectory, ByOpenedStore}
 use Rattle.sl_transport.proofs.Proper.{Plain, Each}
-use Rattle.sl_transport.proofs.Stepping.{IsFrom, EachTask, Does}
+use Rattle.sl_transport.proofs.Stepping.{EachTask, Does}
 
 -- ---- what is noted
 

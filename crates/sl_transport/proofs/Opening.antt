@@ -15,7 +15,7 @@ use Rattle.sl_machine.specs.Parts.{numbers}
 use Rattle.sl_machine.specs.World.{World, Told, nothing}
 use Rattle.sl_machine.specs.Runs.{is_up, has_memory, StartsEach, IsInitial, actors_of}
 use Rattle.sl_transport.proofs.Stepping.{same_key}
-use Rattle.sl_transport.proofs.Ups.{IsApart, AreUp, Went, starts_go}
+use Rattle.sl_transport.proofs.Ups.{IsApart, AreUp, starts_go}
 
 abbrev pub Has : List ℕ → ℕ → Bool
 Has is j = list_any (eq_by_cmp nat_cmp j) is

@@ -14,7 +14,7 @@ use Rattle.sl_machine.specs.Records.{OfData, locked_in, last_finished}
 use Rattle.sl_machine.specs.Memory.{Store, Actor, OfStore}
 use Rattle.sl_machine.specs.World.{Scene, Task, Segment}
 use Rattle.sl_machine.specs.Verdicts.{Verdict, OldFence, Stray, Finished, Parks, IsKept, BelowLow, Answers, for_store, verdict, seen, parked, is_operating, is_same_request, is_locked_for, answering}
-use Rattle.sl_machine.specs.Stores.{own_boot, still, answers, again_acknowledged, packet, keeps_packet, serves_call, serves, with_kept, locks, finishes, relies_wrongly, done_for, by_verdict, admits, Boots, StoreRow, IsRenewed, IsAdmitted, IsTakenUp}
+use Rattle.sl_machine.specs.Stores.{own_boot, still, answers, again_acknowledged, keeps_packet, serves_call, serves, with_kept, locks, finishes, relies_wrongly, done_for, by_verdict, admits, Boots, StoreRow, IsRenewed, IsAdmitted, IsTakenUp}
 use Rattle.sl_transport.proofs.Proper.{KeptIn, Proper, either}
 use Rattle.sl_transport.proofs.Kept.{kept_seen, kept_renewed, kept_empty, kept_put}
 use Rattle.sl_transport.proofs.Judging.{OfVerdict, of_verdict}

@@ -1,8 +1,8 @@
 -- What a turn does to frames and numbers.
-use Rattle.std.proofs.Common.{◌≡◌, ℕ, ◌+◌, ◌≤◌, ◌++◌, Bool, true, false, List, [], ◌∷◌, Option, Some, None, length, refl, sym, ap, subst, ◌∙◌, ◌⊎◌, inl, inr, arith}
+use Rattle.std.proofs.Common.{◌≡◌, ℕ, ◌+◌, ◌≤◌, ◌++◌, true, false, List, [], ◌∷◌, Option, Some, None, length, refl, sym, ap, subst, ◌∙◌, ◌⊎◌, inl, inr, arith}
 use Rattle.std.specs.Prelude.{is_some}
 use Rattle.std.specs.Ordering.{nat_cmp}
-use Rattle.std.specs.FinMap.{FinMap, empty, get, insert, remove}
+use Rattle.std.specs.FinMap.{FinMap, get, insert, remove}
 use Rattle.std.specs.FinMap as map
 use Rattle.sl_defs.specs.Histories.{Happening, Opens, Reaches, Happens, event_count}
 use Rattle.sl_defs.specs.declared.setup.Setup.{Setup}
@@ -17,10 +17,10 @@ use Rattle.sl_machine.specs.Memory.{Actor}
 use Rattle.sl_machine.specs.World.{World, Flying, Task, Given, Arrives, Ticks, Opening, Told, nothing, launched, numbered, landed, begun, done_after, stopped_actor}
 use Rattle.sl_machine.specs.Openings.{settled}
 use Rattle.sl_machine.specs.Proxies.{hello}
-use Rattle.sl_machine.specs.Runs.{Steps, is_up, Silent, IfUp, Begins, FailsToOpen, Starts, StartsEach, IfDown, opened_actor, noted_of, InFlight, IsGiven, Follows, IsTurn, IsInitial, TurnRun, actors_of}
+use Rattle.sl_machine.specs.Runs.{Steps, is_up, Silent, IfUp, Begins, FailsToOpen, Starts, StartsEach, IfDown, opened_actor, noted_of, InFlight, Follows, IsTurn, TurnRun, actors_of}
 use Rattle.sl_transport.proofs.Moving.{Moves, NoneSent, none_sent, moves_both, moves_at, moves_noting, moves_nothing}
-use Rattle.sl_transport.proofs.Proper.{Each, KeptBy}
-use Rattle.sl_transport.proofs.Stepping.{IsFrom, OwnBy, HoldOwn, OthersStay, hold_put, put_else, EachTask, Does, Stepped, steps_move}
+use Rattle.sl_transport.proofs.Proper.{Each}
+use Rattle.sl_transport.proofs.Stepping.{IsFrom, HoldOwn, hold_put, put_else, EachTask, Does, Stepped, steps_move}
 use Rattle.sl_transport.proofs.Opened.{OpensSome, opening_does, plain_settled}
 
 -- ---- openings

@@ -13,7 +13,7 @@ use Rattle.sl_history.specs.Frames.{notes_down, up_by}
 use Rattle.sl_machine.specs.Memory.{Memory, OfProxy, OfCoord, OfSite, OfStore, Actor}
 use Rattle.sl_machine.specs.World.{World, Task, Given, Arrives, Ticks, Opening, scene, Segment, Told, nothing, after_segment, played, told, numbered, with_actor, cut_actor, stopped_actor, landed}
 use Rattle.sl_machine.specs.Openings.{settled}
-use Rattle.sl_machine.specs.Runs.{May, Ends, Whole, Faulted, IsSpent, Steps, down_told, has_memory, is_up, Silent, IfUp, Begins, FailsToOpen, Starts, IfDown, opened_actor, noted_of, with_notes, done_by, Follows}
+use Rattle.sl_machine.specs.Runs.{May, Ends, Whole, Faulted, IsSpent, Steps, down_told, has_memory, is_up, IfUp, Begins, FailsToOpen, Starts, IfDown, opened_actor, noted_of, with_notes, done_by, Follows}
 use Rattle.sl_transport.proofs.Proper.{Plain, KeptBy, Proper}
 use Rattle.sl_transport.proofs.Acting.{proper}
 use Rattle.sl_transport.proofs.Opened.{plain_settled}

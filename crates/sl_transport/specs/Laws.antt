@@ -1,5 +1,4 @@
 -- The laws over every run.
-use Rattle.std.specs.Prelude.{ℕ}
 use Rattle.sl_defs.specs.declared.setup.Setup.{Setup}
 use Rattle.sl_history.specs.Turns.{History}
 use Rattle.sl_machine.specs.World.{World}

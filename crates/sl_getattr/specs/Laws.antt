@@ -1,0 +1,20 @@
+-- The laws on such runs.
+use Rattle.std.specs.Prelude.{◌≡◌, [], ◌∷◌}
+use Rattle.sl_defs.specs.declared.setup.Setup.{Setup}
+use Rattle.sl_model.specs.Perform.{fresh}
+use Rattle.sl_history.specs.Turns.{History, datagram_of}
+use Rattle.sl_history.specs.Legal.{Legal}
+use Rattle.sl_history.specs.Licensed.{dropping, due_drop}
+use Rattle.sl_machine.specs.World.{World}
+use Rattle.sl_getattr.specs.Built.{AreBuilt, NewRun}
+
+abbrev pub GetattrHistoriesAreLegal : Type 0
+GetattrHistoriesAreLegal = (s : Setup) (h : History) (w : World) → s.dirs ≡ 1 → NewRun s h w → AreBuilt h → Legal (fresh s.volume) h
+
+-- In each turn exactly a datagram that has to be dropped is, by the note that says why.
+abbrev pub DropsAreExact : History → Type 0
+DropsAreExact [] = Unit {0}
+DropsAreExact (t ∷ past) = DropsAreExact past × (dropping t.remarks ≡ due_drop past t (datagram_of t.happening))
+
+abbrev pub GetattrDropsAreExact : Type 0
+GetattrDropsAreExact = (s : Setup) (h : History) (w : World) → s.dirs ≡ 1 → NewRun s h w → AreBuilt h → DropsAreExact h

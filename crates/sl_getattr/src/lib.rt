@@ -1,0 +1,26 @@
+//! Runs that open a new volume, and whose calls are all GETATTR: their histories are those of one NFS version 3 server.
+#![tactic(auto)]
+
+ghost use Rattle.sl_getattr.specs.Laws.{GetattrDropsAreExact, GetattrHistoriesAreLegal};
+
+use sl_edit::{call_xids_have_slots, handles_have_slots};
+
+/// Where a volume with one directory server is opened on empty disks, and no call but GETATTR comes, the history is legal:
+/// each reply is the one that one server gives (RFC 1813, section 3.3.1), no call has two, and nothing takes effect.
+///
+/// A forwarded packet is the client's with another handle and xid, so this stands on what an edit of these leaves.
+pub fn getattr_histories_are_legal()
+    ensures { GetattrHistoriesAreLegal }
+{
+    handles_have_slots();
+    call_xids_have_slots();
+}
+
+/// In such a history exactly those datagrams are dropped that have to be, each by the note that says why: the proxy is down,
+/// no call header stands there, the proxy wasn't welcomed yet, or 256 calls wait.
+pub fn getattr_drops_are_exact()
+    ensures { GetattrDropsAreExact }
+{
+    handles_have_slots();
+    call_xids_have_slots();
+}
