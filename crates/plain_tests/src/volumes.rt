@@ -1,5 +1,5 @@
 //! What calls answer on a new volume, and what becomes of unstable writes.
-use sl_plain::{Volume, perform_plain};
+use sl_plain::Volume;
 use sl_types::{
     Bytes, Call, Choice, CreateHow, Cred, Fh, Gids, Handle, Kind, Name, NoMemory, Reply, Stable,
     Status, Time,
@@ -22,27 +22,41 @@ fn bytes(alloc: Global, text: &[u8]) -> Result<Bytes, NoMemory> {
     }
 }
 
-// How a REMOVE of this name, in the directory of this handle, ends on a new volume.
-fn removed(alloc: Global, handle: &[u8], name: &[u8]) -> Result<Status, Fail> {
-    let volume = Volume::new(alloc, 7)?;
+// The call's reply, which this volume gives with fileid 2 for what the call makes.
+fn reply_to(alloc: Global, volume: &mut Volume, call: &Call) -> Result<Reply, Fail> {
     let cred = Cred {
         uid: 1,
         gid: 2,
         gids: Gids::new(),
     };
-    let call = Call::Remove {
-        dir: Fh::new(bytes(alloc, handle)?),
-        name: Name::new(bytes(alloc, name)?),
-    };
     let choice = Choice {
-        fileid: 0,
+        fileid: 2,
         kept: false,
     };
-    let (_, reply) = perform_plain(&volume, &call, &cred, MOMENT, &choice)?;
+    Ok(volume.perform(alloc, call, &cred, MOMENT, &choice)?)
+}
+
+// A REMOVE of this name, in the directory of this handle.
+fn remove(alloc: Global, handle: &[u8], name: &[u8]) -> Result<Call, NoMemory> {
+    Ok(Call::Remove {
+        dir: Fh::new(bytes(alloc, handle)?),
+        name: Name::new(bytes(alloc, name)?),
+    })
+}
+
+// How a REMOVE has ended.
+fn status_of(reply: &Reply) -> Status {
     match reply {
-        Reply::Remove { status, wcc: _ } => Ok(status),
-        _ => Ok(Status::Ok),
+        Reply::Remove { status, .. } => *status,
+        _ => Status::Ok,
     }
+}
+
+// How a REMOVE of this name, in the directory of this handle, ends on this volume.
+fn removed(alloc: Global, volume: &mut Volume, handle: &[u8], name: &[u8]) -> Result<Status, Fail> {
+    let call = remove(alloc, handle, name)?;
+    let reply = reply_to(alloc, volume, &call)?;
+    Ok(status_of(&reply))
 }
 
 /// The root's handle, of another volume.
@@ -56,47 +70,38 @@ const FILE: Handle = Handle {
 
 #[test]
 fn a_handle_of_no_form_is_told_before_its_name(rt: HostRuntime) -> Result<(), Fail> {
-    assert_eq!(rt; removed(rt.alloc(), b"SLH1", b"")?, Status::BadHandle);
+    let mut volume = Volume::new(rt.alloc(), 7)?;
+    let status = removed(rt.alloc(), &mut volume, b"SLH1", b"")?;
+    assert_eq!(rt; status, Status::BadHandle);
     Ok(())
 }
 
 #[test]
 fn a_name_of_no_form_is_told_before_a_stale_handle(rt: HostRuntime) -> Result<(), Fail> {
-    let elsewhere = ELSEWHERE.bytes();
-    assert_eq!(rt; removed(rt.alloc(), &elsewhere, b"")?, Status::Acces);
-    assert_eq!(rt; removed(rt.alloc(), &elsewhere, b"a/")?, Status::Acces);
+    let mut volume = Volume::new(rt.alloc(), 7)?;
+    let status = removed(rt.alloc(), &mut volume, &ELSEWHERE.bytes(), b"a/")?;
+    assert_eq!(rt; status, Status::Acces);
     Ok(())
 }
 
 #[test]
 fn a_stale_handle_is_told_before_a_dot(rt: HostRuntime) -> Result<(), Fail> {
-    assert_eq!(rt;
-        removed(rt.alloc(), &ELSEWHERE.bytes(), b".")?,
-        Status::Stale
-    );
-    assert_eq!(rt; removed(rt.alloc(), &FILE.bytes(), b".")?, Status::Stale);
+    let mut volume = Volume::new(rt.alloc(), 7)?;
+    let elsewhere = removed(rt.alloc(), &mut volume, &ELSEWHERE.bytes(), b".")?;
+    assert_eq!(rt; elsewhere, Status::Stale);
+    let file = removed(rt.alloc(), &mut volume, &FILE.bytes(), b".")?;
+    assert_eq!(rt; file, Status::Stale);
     Ok(())
 }
 
 #[test]
 fn a_dot_is_told_before_a_name_that_is_not_there(rt: HostRuntime) -> Result<(), Fail> {
-    assert_eq!(rt; removed(rt.alloc(), &ROOT.bytes(), b"..")?, Status::Inval);
-    assert_eq!(rt; removed(rt.alloc(), &ROOT.bytes(), b"a")?, Status::NoEnt);
+    let mut volume = Volume::new(rt.alloc(), 7)?;
+    let dots = removed(rt.alloc(), &mut volume, &ROOT.bytes(), b"..")?;
+    assert_eq!(rt; dots, Status::Inval);
+    let absent = removed(rt.alloc(), &mut volume, &ROOT.bytes(), b"a")?;
+    assert_eq!(rt; absent, Status::NoEnt);
     Ok(())
-}
-
-// The call's reply, which this volume gives with fileid 2 for what the call makes.
-fn reply_to(alloc: Global, volume: &mut Volume, call: &Call) -> Result<Reply, Fail> {
-    let cred = Cred {
-        uid: 1,
-        gid: 2,
-        gids: Gids::new(),
-    };
-    let choice = Choice {
-        fileid: 2,
-        kept: false,
-    };
-    Ok(volume.perform(alloc, call, &cred, MOMENT, &choice)?)
 }
 
 // The handle of the file with fileid 2.
@@ -129,16 +134,21 @@ fn written(alloc: Global) -> Result<Volume, Fail> {
     Ok(volume)
 }
 
-// Four bytes of the file, from offset 2 on.
-fn four_bytes(alloc: Global, volume: &mut Volume) -> Result<Bytes, Fail> {
+// A READ of four bytes of the file, from offset 2 on, performed.
+fn read(alloc: Global, volume: &mut Volume) -> Result<Reply, Fail> {
     let read = Call::Read {
         file: file(alloc)?,
         offset: 2,
         count: 4,
     };
-    match reply_to(alloc, volume, &read)? {
-        Reply::Read(Ok(ok)) => Ok(ok.bytes),
-        _ => Ok(bytes(alloc, b"no bytes")?),
+    reply_to(alloc, volume, &read)
+}
+
+// Whether a READ has ended with these bytes.
+fn has_bytes(reply: &Reply, bytes: &[u8]) -> bool {
+    match reply {
+        Reply::Read(Ok(ok)) => ok.bytes.as_slice() == bytes,
+        _ => false,
     }
 }
 
@@ -147,10 +157,7 @@ fn an_unstable_write_is_seen(rt: HostRuntime) -> Result<(), Fail> {
     let mut volume = written(rt.alloc())?;
     assert_eq!(rt; volume.seen(2).map_or(0, |n| n.size), 5);
     assert_eq!(rt; volume.node(2).map_or(9, |n| n.size), 0);
-    assert_eq!(rt;
-        four_bytes(rt.alloc(), &mut volume)?.as_slice(),
-        b"\0xy".as_slice()
-    );
+    assert!(rt; has_bytes(&read(rt.alloc(), &mut volume)?, b"\0xy"));
     Ok(())
 }
 
@@ -159,10 +166,7 @@ fn an_unstable_write_is_lost_by_a_restart(rt: HostRuntime) -> Result<(), Fail> {
     let mut volume = written(rt.alloc())?;
     volume.restart(rt.alloc(), 8);
     assert_eq!(rt; volume.verifier(), 8);
-    assert_eq!(rt;
-        four_bytes(rt.alloc(), &mut volume)?.as_slice(),
-        b"".as_slice()
-    );
+    assert!(rt; has_bytes(&read(rt.alloc(), &mut volume)?, b""));
     Ok(())
 }
 
@@ -172,9 +176,6 @@ fn a_flush_keeps_what_was_written(rt: HostRuntime) -> Result<(), Fail> {
     volume.flush(2)?;
     volume.restart(rt.alloc(), 8);
     assert_eq!(rt; volume.node(2).map_or(0, |n| n.size), 5);
-    assert_eq!(rt;
-        four_bytes(rt.alloc(), &mut volume)?.as_slice(),
-        b"\0xy".as_slice()
-    );
+    assert!(rt; has_bytes(&read(rt.alloc(), &mut volume)?, b"\0xy"));
     Ok(())
 }
