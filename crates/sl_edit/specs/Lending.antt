@@ -1,6 +1,6 @@
 -- What a packet, or a view of one, is once what it lent for writing has ended.
 use Rattle.std.specs.Prelude.{ℕ, ◌+◌, List, [], Option}
-use Rattle.std.specs.Borrow.{Lends, LendsIf, MutBor, Fml, Array, u8}
+use Rattle.std.specs.Borrow.{Lends, LendsIf, MutBor, Fml, Array, u8, follows_if, name_if_some}
 use mir.Syntax.{named}
 use Rattle.sl_edit.specs.declared.span.Span.{Span}
 use Rattle.sl_edit.specs.contracts.call_view.CallView as call
@@ -23,6 +23,14 @@ LendsBytes packet span array = Lends (Array u8 0) (Array u8 0) packet array (spl
 -- the same reference, with this packet behind it
 abbrev pub with_packet : MutBor (List ℕ) → List ℕ → MutBor (List ℕ)
 with_packet view packet = record view { now = packet }
+
+-- ---- a packet of which a view is made: it is what was left of the view, if there was one; else it is as it was
+
+abbrev pub LendsCall : MutBor (List ℕ) → Option (MutBor (List ℕ)) → Fml
+LendsCall packet view = LendsIf (Array u8 0) (Array u8 0) packet view (λ bytes. bytes) packet.now
+
+abbrev pub LendsReply : MutBor (List ℕ) → Option ReplyPacket → Fml
+LendsReply packet view = follows_if (Array u8 0) (Array u8 0) packet.ghost_name (name_if_some (λ v. v.packet.ghost_name) view) (λ bytes. bytes) packet.now
 
 -- ---- a view of a call: its packet is what was left of it, and it has in this interval what was left in the part, or
 -- in the slot, if there was one; else it is as it was

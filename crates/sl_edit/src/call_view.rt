@@ -1,8 +1,8 @@
-ghost use Rattle.std.specs.Prelude.{◌≡◌, ◌↔◌, ◌-◌, ◌≤◌, drop, is_some, length, take, Some, IfSome, IsSome};
+ghost use Rattle.std.specs.Prelude.{◌≡◌, ◌↔◌, ◌-◌, ◌≤◌, drop, is_some, length, take, true, Some, IfSome, IsSome};
 ghost use Rattle.std.specs.Borrow.{sem};
 ghost use Rattle.sl_defs.specs.Items.{u32_text};
 ghost use Rattle.sl_edit.specs.Edits.{Edited, IsOrdered, bytes_if};
-ghost use Rattle.sl_edit.specs.Lending.{CallLends, CallLendsBytes, CallLendsField, CallLendsSlot, up_to};
+ghost use Rattle.sl_edit.specs.Lending.{CallLends, CallLendsBytes, CallLendsField, CallLendsSlot, LendsCall, up_to};
 ghost use Rattle.sl_edit.specs.Packets.{IsCall};
 ghost use Rattle.sl_edit.specs.Cuts.{IsCut};
 ghost use Rattle.sl_edit.specs.Spans as spans;
@@ -29,13 +29,28 @@ impl<'a> Model for CallView<'a> {
 }
 
 impl<'a> CallView<'a> {
-    /// The call in the packet. None exactly where the packet is no call of NFS version 3 with readable arguments.
+    /// Whether the packet is a call, and the packet again, so that `new` lends it to the view alone.
+    fn seek(packet: &'a mut [u8]) -> (bool, &'a mut [u8])
+        ensures same { result.1.ghost_name ≡ packet.entry.ghost_name }
+        ensures kept { result.1.now ≡ packet.old }
+        ensures found { (result.0 ≡ true) ↔ IsCall packet.old }
+    {
+        (packet::is_call(packet), packet)
+    }
+
+    /// The call in the packet. None exactly where the packet is no call of NFS version 3 with readable arguments. Once the
+    /// view is gone, the packet is what was left of it; where there is none, the packet is as it was.
+    ///
+    /// The proof of a caller doesn't follow the packet. A caller that has to know what it is then takes the functions of
+    /// `packet`.
     pub fn new(packet: &'a mut [u8]) -> Option<CallView<'a>>
+        ensures* lent { sem 𝓛 (LendsCall packet.entry result) }
         ensures same_packet { IfSome result (λ view. view.ghost_name ≡ packet.entry.ghost_name) }
         ensures kept { IfSome result (λ view. view.now ≡ packet.old) }
         ensures variant { IsSome result ↔ IsCall packet.old }
     {
-        if packet::is_call(packet) {
+        let (found, packet) = CallView::seek(packet);
+        if found {
             Some(CallView { packet })
         } else {
             None

@@ -4,7 +4,7 @@ ghost use Rattle.sl_defs.specs.Items.{u32_text, u64_text};
 ghost use Rattle.sl_items.specs.Spelling.{fattr_text};
 ghost use Rattle.sl_xdr.specs.Reading.{number_of_flag};
 ghost use Rattle.sl_edit.specs.Edits.{Edited, IsWithin, bytes_if};
-ghost use Rattle.sl_edit.specs.Lending.{ReplyLends, ReplyLendsBytes, ReplyLendsSlot, run_of};
+ghost use Rattle.sl_edit.specs.Lending.{LendsReply, ReplyLends, ReplyLendsBytes, ReplyLendsSlot, run_of};
 ghost use Rattle.sl_edit.specs.Packets.{IsReply};
 ghost use Rattle.sl_edit.specs.Spans as spans;
 
@@ -34,13 +34,28 @@ impl<'a> Model for ReplyView<'a> {
 }
 
 impl<'a> ReplyView<'a> {
-    /// The reply in the packet. None exactly where the packet is no accepted reply of this procedure's grammar.
+    /// Whether the packet is a reply, and the packet again, so that `new` lends it to the view alone.
+    fn seek(procedure: u32, packet: &'a mut [u8]) -> (bool, &'a mut [u8])
+        ensures same { result.1.ghost_name ≡ packet.entry.ghost_name }
+        ensures kept { result.1.now ≡ packet.old }
+        ensures found { (result.0 ≡ true) ↔ IsReply procedure packet.old }
+    {
+        (packet::is_reply(packet, procedure), packet)
+    }
+
+    /// The reply in the packet. None exactly where the packet is no accepted reply of this procedure's grammar. Once the
+    /// view is gone, the packet is what was left of it; where there is none, the packet is as it was.
+    ///
+    /// The proof of a caller doesn't follow the packet. A caller that has to know what it is then takes the functions of
+    /// `packet`.
     pub fn new(procedure: u32, packet: &'a mut [u8]) -> Option<ReplyView<'a>>
+        ensures* lent { sem 𝓛 (LendsReply packet.entry result) }
         ensures same_packet { IfSome result (λ view. (view.procedure ≡ procedure) × (view.packet.ghost_name ≡ packet.entry.ghost_name)) }
         ensures kept { IfSome result (λ view. view.packet.now ≡ packet.old) }
         ensures variant { IsSome result ↔ IsReply procedure packet.old }
     {
-        if packet::is_reply(packet, procedure) {
+        let (found, packet) = ReplyView::seek(procedure, packet);
+        if found {
             Some(ReplyView { procedure, packet })
         } else {
             None

@@ -223,6 +223,17 @@ fn what_no_readable_call_is_has_no_view(rt: HostRuntime) -> Result<(), Fail> {
 }
 
 #[test]
+fn a_packet_that_is_no_call_stays_as_it_is(rt: HostRuntime) -> Result<(), Fail> {
+    // another program
+    let numbers = [5, 0, 2, 100_004, 3, 3, 0, 0, 0, 0, 0, 0];
+    let mut other = text(rt.alloc(), &numbers)?;
+    assert!(rt; CallView::new(&mut other).is_none());
+    let expected = text(rt.alloc(), &numbers)?;
+    assert_eq!(rt; other.as_slice(), expected.as_slice());
+    Ok(())
+}
+
+#[test]
 fn only_a_read_has_a_count_to_write(rt: HostRuntime) -> Result<(), Fail> {
     let mut call = packet_of(rt.alloc(), &READ, &[3, 0x6162_6307, 0, 8, 4096])?;
     assert!(rt; CallView::new(&mut call).ok_or("no call")?.set_count(100));

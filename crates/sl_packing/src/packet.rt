@@ -18,9 +18,15 @@ pub enum PacketFault {
 }
 
 /// The packet of an accepted call's reply (RFC 5531, section 9): its head, and the results.
+///
+/// `TooLong` comes exactly where no packet can hold the reply.
 pub fn reply_packet(alloc: Global, xid: u32, reply: &Reply) -> Result<Bytes, PacketFault>
     ensures ok { IfOk result (λ packet. packet ≡ accepted_text xid 0 ++ reply_text reply.now) }
+    // A reply that has a packet fits one.
+    ensures fits { IfOk result (λ packet. FitsReply reply.now) }
+    // It is said to be too long exactly where it doesn't.
     ensures too_long { result ≡ Err TooLong → FitsReply reply.now → ⊥ }
+    ensures unfit { (FitsReply reply.now → ⊥) → result ≡ Err TooLong }
 {
     if !fits(reply) {
         return Err(PacketFault::TooLong);
