@@ -1,6 +1,6 @@
 #!/usr/bin/env bash
-# The transcripts of 300 random schedules of NULL calls, refused calls and junk are those of one server, as an
-# independent judge of transcripts says. Skipped where python3 or the judge is missing.
+# The transcripts of 300 random schedules of NULL calls, refused calls, junk and GETATTR calls, with frames given in any
+# order, are those of one server, as an independent judge of transcripts says. Skipped where python3 or the judge is missing.
 set -u
 cd "$(dirname "$0")/.." || exit 1
 judge=../shared/judge/judge.py

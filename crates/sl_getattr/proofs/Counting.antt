@@ -4,15 +4,18 @@ use Rattle.std.proofs.lemmas.List.{append-nil}
 use Rattle.std.specs.Ordering.{nat_cmp}
 use Rattle.std.specs.FinMap.{empty, get, insert, remove, keys, len}
 use Rattle.sl_frames.specs.declared.frame.Frame.{Frame}
+use Rattle.sl_frames.specs.declared.body.Body.TheVariants as body
 use Rattle.sl_history.specs.Turns.{Remark, Sent, Did, Flush, Verf, Replied, Junk, Early, Full, Lost, Down, Turn, History, events}
 use Rattle.sl_history.specs.Arrivals.{Asked, Datagram, datagram, asked_by, arrives, waits_on, waiting, drops_any, is_welcomed, crowded, turned_away, dropped_by, most_waiting, same_fence}
 use Rattle.sl_history.specs.Frames.{or_else, hello_in, hello_fence, verf_of, last_among, last_in, last_hello, last_verf}
 use Rattle.sl_history.specs.Frames as history
+use Rattle.sl_history.specs.Licensed.{flush_in}
 use Rattle.sl_machine.specs.Memory.{Waiting, Proxy}
 use Rattle.sl_machine.specs.World.{numbered}
 use Rattle.sl_transport.proofs.Proper.{Each}
 use Rattle.sl_getattr.proofs.Keys.{keys_put, keys_removed, many_keys, none_without, no_keys}
 use Rattle.sl_getattr.proofs.Stepping.{not_both}
+use Rattle.sl_getattr.proofs.Licensing.{AreHarmless}
 
 -- ---- the history and the proxy
 
@@ -21,6 +24,7 @@ pub record Counted (h : History) (p : Proxy) : Type 0 where
   pub verf : last_verf h ≡ (if p.welcomed then Some p.fence else None)
   pub waits : waiting h ≡ keys p.pending
   pub none : p.welcomed ≡ false → p.pending ≡ empty
+  pub fence : 0 < p.fence
 
 -- ---- notes that change nothing of it
 
@@ -107,6 +111,7 @@ counted_calm past t p calm nothing c = record {
   verf = verf_stays past t (if p.welcomed then Some p.fence else None) (calm_verf t.remarks calm) c.verf;
   waits = waits_after past t ∙ calm_waits t.remarks (waiting past ++ arrives (events (t ∷ past)) t (asked_by t)) calm ∙ ap (λ ns. waiting past ++ ns) nothing ∙ append-nil (waiting past) ∙ c.waits;
   none = c.none;
+  fence = c.fence;
 }
 
 -- The proxy is welcomed.
@@ -117,6 +122,7 @@ counted_verf past t p are first c = record {
   verf = ap (λ rs. or_else (last_among verf_of rs) (last_in verf_of past)) are;
   waits = waits_after past t ∙ ap (λ rs. waits_on rs (waiting past ++ arrives (events (t ∷ past)) t (asked_by t))) are ∙ sym (ap (λ m. keys m) (c.none first) ∙ no_keys Waiting);
   none = λ e. absurd (not_both refl e);
+  fence = c.fence;
 }
 
 abbrev pub without_key : ℕ → List ℕ → List ℕ
@@ -143,6 +149,7 @@ counted_reply past t p n e bytes came are is same c = record {
   waits = waits_after past t ∙ ap (λ rs. waits_on rs (waiting past ++ arrives (events (t ∷ past)) t (asked_by t))) are ∙ ap (λ ns. without_key n (waiting past ++ ns)) is ∙ same
       ∙ ap (without_key n) c.waits ∙ sym (keys_removed p.pending n);
   none = λ e. ap (λ m. remove m n) (c.none e) ∙ none_left n;
+  fence = c.fence;
 }
   where
     none_left : (n : ℕ) → remove (empty {X = Waiting} {R = nat_cmp}) n ≡ empty
@@ -165,6 +172,7 @@ counted_asks past t p n next w calm came welcomed below c = record {
   waits = waits_after past t ∙ calm_waits t.remarks (waiting past ++ arrives (events (t ∷ past)) t (asked_by t)) calm ∙ ap (λ ns. waiting past ++ ns) came ∙ ap (λ ns. ns ++ n ∷ []) c.waits
       ∙ sym (keys_put p.pending n w below);
   none = λ e. absurd (not_both welcomed e);
+  fence = c.fence;
 }
 
 -- ---- which datagrams are dropped
@@ -218,7 +226,7 @@ AreDowns (r ∷ rs) = ⊥
 
 abbrev pub AreSent : List Remark → Type 0
 AreSent [] = Unit {0}
-AreSent (Sent k f ∷ rs) = AreSent rs
+AreSent (Sent k f ∷ rs) = (f.«body» ≡ body.Hello) × AreSent rs
 AreSent (r ∷ rs) = ⊥
 
 pub downs_calm : (rs : List Remark) → AreDowns rs → IsCalm rs
@@ -249,7 +257,7 @@ downs_both (Lost m ∷ rs) qs p q = absurd p
 
 pub sent_both : (rs qs : List Remark) → AreSent rs → AreSent qs → AreSent (rs ++ qs)
 sent_both [] qs p q = q
-sent_both (Sent k f ∷ rs) qs p q = sent_both rs qs p q
+sent_both (Sent k f ∷ rs) qs p q = (p.0, sent_both rs qs p.1 q)
 sent_both (Down a ∷ rs) qs p q = absurd p
 sent_both (Did m at choice ∷ rs) qs p q = absurd p
 sent_both (Flush f ∷ rs) qs p q = absurd p
@@ -260,13 +268,13 @@ sent_both (Early m ∷ rs) qs p q = absurd p
 sent_both (Full m ∷ rs) qs p q = absurd p
 sent_both (Lost m ∷ rs) qs p q = absurd p
 
-pub numbered_sent : (k : ℕ) (fs : List Frame) → AreSent (numbered k fs)
-numbered_sent k [] = tt
-numbered_sent k (f ∷ fs) = numbered_sent (k + 1) fs
+pub numbered_sent : (k : ℕ) (fs : List Frame) → Each (λ f. f.«body» ≡ body.Hello) fs → AreSent (numbered k fs)
+numbered_sent k [] each = tt
+numbered_sent k (f ∷ fs) each = (each.0, numbered_sent (k + 1) fs each.1)
 
 sent_verf : (rs : List Remark) → AreSent rs → last_among verf_of rs ≡ None
 sent_verf [] sent = refl
-sent_verf (Sent k f ∷ rs) sent = ap (λ o. or_else o None) (sent_verf rs sent)
+sent_verf (Sent k f ∷ rs) sent = ap (λ o. or_else o None) (sent_verf rs sent.1)
 sent_verf (Down a ∷ rs) sent = absurd sent
 sent_verf (Did m at choice ∷ rs) sent = absurd sent
 sent_verf (Flush f ∷ rs) sent = absurd sent
@@ -279,7 +287,7 @@ sent_verf (Lost m ∷ rs) sent = absurd sent
 
 sent_waits : (rs qs : List Remark) (ns : List ℕ) → AreSent rs → waits_on (rs ++ qs) ns ≡ waits_on qs ns
 sent_waits [] qs ns sent = refl
-sent_waits (Sent k f ∷ rs) qs ns sent = sent_waits rs qs ns sent
+sent_waits (Sent k f ∷ rs) qs ns sent = sent_waits rs qs ns sent.1
 sent_waits (Down a ∷ rs) qs ns sent = absurd sent
 sent_waits (Did m at choice ∷ rs) qs ns sent = absurd sent
 sent_waits (Flush f ∷ rs) qs ns sent = absurd sent
@@ -304,9 +312,9 @@ last_both of (r ∷ rs) qs = ap (λ o. or_else o (of r)) (last_both of rs qs) �
 
 -- After the opening the proxy has said its first Hello, and isn't welcomed.
 pub counted_opened : (t : Turn) (p : Proxy) (sent downs : List Remark) → t.remarks ≡ sent ++ downs → AreSent sent → AreDowns downs → last_among hello_fence sent ≡ Some p.fence
-    → asked_by t ≡ None → p.welcomed ≡ false → p.pending ≡ empty → Counted (t ∷ []) p
+    → asked_by t ≡ None → p.welcomed ≡ false → p.pending ≡ empty → 0 < p.fence → Counted (t ∷ []) p
 unfolding last_hello last_verf waiting
-counted_opened t p sent downs are is_sent is_downs said none first nothing = record {
+counted_opened t p sent downs are is_sent is_downs said none first nothing fence = record {
   hello = ap (λ rs. or_else (last_among hello_fence rs) None) are ∙ ap (λ o. or_else o None) (last_both hello_fence sent downs
       ∙ ap (λ o. or_else o (last_among hello_fence sent)) (calm_hello downs (downs_calm downs is_downs)) ∙ said);
   verf = ap (λ rs. or_else (last_among verf_of rs) None) are ∙ ap (λ o. or_else o None) (last_both verf_of sent downs
@@ -316,4 +324,31 @@ counted_opened t p sent downs are is_sent is_downs said none first nothing = rec
       ∙ calm_waits downs ([] ++ arrives (events (t ∷ [])) t (asked_by t)) (downs_calm downs is_downs) ∙ ap (arrives (events (t ∷ [])) t) none
       ∙ sym (ap (λ m. keys m) nothing ∙ no_keys Waiting);
   none = λ e. nothing;
+  fence = fence;
 }
+
+pub sent_harmless : (rs : List Remark) → AreSent rs → AreHarmless rs
+sent_harmless [] sent = tt
+sent_harmless (Sent k f ∷ rs) sent = (ap flush_in sent.0, sent_harmless rs sent.1)
+sent_harmless (Down a ∷ rs) sent = absurd sent
+sent_harmless (Did m at choice ∷ rs) sent = absurd sent
+sent_harmless (Flush f ∷ rs) sent = absurd sent
+sent_harmless (Verf v ∷ rs) sent = absurd sent
+sent_harmless (Replied m e bytes ∷ rs) sent = absurd sent
+sent_harmless (Junk m ∷ rs) sent = absurd sent
+sent_harmless (Early m ∷ rs) sent = absurd sent
+sent_harmless (Full m ∷ rs) sent = absurd sent
+sent_harmless (Lost m ∷ rs) sent = absurd sent
+
+pub downs_harmless : (rs : List Remark) → AreDowns rs → AreHarmless rs
+downs_harmless [] downs = tt
+downs_harmless (Down a ∷ rs) downs = downs_harmless rs downs
+downs_harmless (Sent k f ∷ rs) downs = absurd downs
+downs_harmless (Did m at choice ∷ rs) downs = absurd downs
+downs_harmless (Flush f ∷ rs) downs = absurd downs
+downs_harmless (Verf v ∷ rs) downs = absurd downs
+downs_harmless (Replied m e bytes ∷ rs) downs = absurd downs
+downs_harmless (Junk m ∷ rs) downs = absurd downs
+downs_harmless (Early m ∷ rs) downs = absurd downs
+downs_harmless (Full m ∷ rs) downs = absurd downs
+downs_harmless (Lost m ∷ rs) downs = absurd downs

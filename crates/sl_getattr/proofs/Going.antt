@@ -41,7 +41,7 @@ no_more owner next = record { less = itself next; same = λ tag less. refl }
     itself n = omega arith
 
 fine_more : (s : Setup) (owner owner' : ℕ → Owner) (next next' now now' : ℕ) (f : Flying) → Extends owner owner' next next' → now ≤ now' → IsFine s owner next now f → IsFine s owner' next' now' f
-fine_more s owner owner' next next' now now' f more moment (IsHello to kind) = IsHello to kind
+fine_more s owner owner' next next' now now' f more moment (IsHello to kind bare) = IsHello to kind bare
 fine_more s owner owner' next next' now now' f more moment (IsWelcome to from kind) = IsWelcome to from kind
 fine_more s owner owner' next next' now now' f more moment (IsForward to from sent) = IsForward to from (record {
   chosen = sent.chosen;

@@ -20,3 +20,7 @@ pub mod Splicing
 pub mod Packets
 pub mod Keys
 pub mod Counting
+pub mod Licensing
+pub mod Fencing
+pub mod Wiring
+pub mod Remembering

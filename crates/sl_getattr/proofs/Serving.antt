@@ -27,7 +27,8 @@ use Rattle.sl_getattr.proofs.Maps.{has_put}
 use Rattle.sl_getattr.proofs.Looking.{look_by, root_alone, root_is_seen}
 use Rattle.sl_getattr.proofs.Sound.{NothingKept, IsDirectory, AsksFor}
 use Rattle.sl_getattr.proofs.Tales.{IsPlain}
-use Rattle.sl_getattr.proofs.Counting.{IsCalm}
+use Rattle.sl_getattr.proofs.Licensing.{AreHarmless}
+use Rattle.sl_getattr.proofs.Counting.{IsCalm, AreDowns}
 use Rattle.sl_getattr.proofs.Doing.{Did, did_last, did_then, did_fall}
 use Rattle.sl_getattr.proofs.Rows.{DirectoryOnFrame, DirectoryRenews, DirectoryAdmits, directory_given}
 
@@ -42,6 +43,8 @@ pub record IsAnswerTo (s : Setup) (f : Frame) (h : Handle) (g : Frame) : Type 0 
   pub to : g.to ≡ f.from
   pub from : g.from ≡ 16
   pub tag : g.tag ≡ f.tag
+  pub fence : g.fence ≡ f.fence
+  pub op : g.op ≡ f.op
   pub small : h.volume < 2 ^ 64
   pub asked : Asked
   pub fits : asked.xid < 2 ^ 32
@@ -62,6 +65,8 @@ pub record Served (s : Setup) (f : Frame) (h : Handle) (w : World) (n : Told) (w
   pub sends : Sends s f h frames
   pub plain : IsPlain notes
   pub calm : IsCalm notes
+  pub downs : AreDowns notes
+  pub harmless : AreHarmless notes
 
 -- these frames are sent, and nothing else is done
 abbrev replies : Site → List Frame → Segment
@@ -86,7 +91,7 @@ module _ (s : Setup) (x : Scene) (a : Actor) (f : Frame) (h : Handle) (here : x.
   answers_call : (m : Site) (chosen : ℕ) (q : Asked) → AsksFor q h → cells_of a.records ≡ root_alone s.volume → Replying s f h m (serves x m f chosen (cells_of a.records) (Some q))
   answers_call m chosen q about cells = record {
     frames = answering x.actor 0 f (body.Packet (answer_to q (reply.Getattr (look_by s.volume (Some h))))) ∷ [];
-    sends = OneAnswer (answering x.actor 0 f (body.Packet (answer_to q (reply.Getattr (look_by s.volume (Some h)))))) (record { to = refl; from = here; tag = refl; small = about.small; asked = q; fits = about.fits; is = refl }) refl;
+    sends = OneAnswer (answering x.actor 0 f (body.Packet (answer_to q (reply.Getattr (look_by s.volume (Some h)))))) (record { to = refl; from = here; tag = refl; fence = refl; op = refl; small = about.small; asked = q; fits = about.fits; is = refl }) refl;
     is = ap (λ c. serves x m f chosen c (Some q)) cells
         ∙ ap (λ b. if b then does_call x m f chosen q (root_alone s.volume) (forwarded_choice chosen) else looks x m f q (root_alone s.volume) (forwarded_choice chosen)) (asks_only q.call about.object about.is)
         ∙ ap (λ r. replies m (answering x.actor 0 f (body.Packet (packet_of x.actor q r)) ∷ [])) (root_is_seen s.volume q about.object x.moment (forwarded_choice chosen) about.is)
@@ -155,6 +160,8 @@ served_then s f h w n a z w' n' silent unnoted later = record {
   sends = later.sends;
   plain = later.plain;
   calm = later.calm;
+  downs = later.downs;
+  harmless = later.harmless;
 }
 
 served_last : (s : Setup) (f : Frame) (h : Handle) (w : World) (n : Told) (a : Actor) (m : Site) (z : Segment) (w' : World) (n' : Told) → IsDirectory s m a.records → Replying s f h m z
@@ -169,6 +176,8 @@ served_last s f h w n a m z w' n' sound replying steps = record {
   sends = replying.sends;
   plain = tt;
   calm = tt;
+  downs = tt;
+  harmless = tt;
 }
 
 module _ (s : Setup) (h : Handle) (w : World) (n : Told) (a : Actor) (m : Site) (f : Frame) (e : ℕ) (w' : World) (n' : Told) (is : get w.actors 16 ≡ Some a) (up : a.memory ≡ Some (OfSite m))
@@ -218,7 +227,7 @@ serves_so s h w n a m f e w' n' is up sound chosen packet kind about steps = by 
     on_first z (DirectoryAdmits row) steps = admits_so s h w n a m f e w' n' is up sound chosen packet kind about z row steps
 
     fallen : (r : Record) → Did 16 w n w' n' None a.records [] (note.Down 16 ∷ []) → Served s f h w n w' n'
-    fallen r did = record { memory = None; records = a.records; frames = []; notes = note.Down 16 ∷ []; did = did; sound = tt; sends = Nothing refl; plain = tt; calm = tt }
+    fallen r did = record { memory = None; records = a.records; frames = []; notes = note.Down 16 ∷ []; did = did; sound = tt; sends = Nothing refl; plain = tt; calm = tt; downs = tt; harmless = tt }
 
     by : Begun 16 (Given f e) [] w n a w' n' → Served s f h w n w' n'
     by (Does first) = on_first first.segment (row_for s h w n a m f e w' n' is up sound chosen packet kind about first.segment first.may) first.behind

@@ -12,6 +12,7 @@ use Rattle.sl_frames.specs.declared.frame.Frame.{Frame}
 use Rattle.sl_frames.specs.declared.body.Body.TheVariants as body
 use Rattle.sl_history.specs.Turns.{History, events, turn_of}
 use Rattle.sl_history.specs.Arrivals.{Asked, IsAsked, datagram, asked_in}
+use Rattle.sl_history.specs.Frames.{last_verf}
 use Rattle.sl_history.specs.Volumes.{volume_after, volume_at}
 use Rattle.sl_history.specs.Legal.{any_in, is_did, is_reply, was_dropped, datagram_in}
 use Rattle.sl_machine.specs.Records.{Record, cells_of, locked_in, started_of}
@@ -30,6 +31,7 @@ pub record Tale (s : Setup) (h : History) : Type 0 where
   pub undone : (n : ℕ) → any_in (is_did n) h ≡ false
   pub unanswered : (n : ℕ) → events h < n → any_in (is_reply n) h ≡ false
   pub after : IsNew s.volume (volume_after (fresh s.volume) h)
+  pub verifier : last_verf h ≡ None → (volume_after (fresh s.volume) h).verifier ≡ 0
   pub at : (e : ℕ) → IsNew s.volume (volume_at (fresh s.volume) h e)
 
 -- ---- whose request a tag is
@@ -95,6 +97,10 @@ pub record IsDirectory (s : Setup) (m : Site) (rs : List Record) : Type 0 where
 
 -- ---- frames in flight
 
+-- it is the proxy's, and of no request and no operation
+abbrev pub IsBare : Frame → Type 0
+IsBare f = (f.from ≡ 0) × (f.tag ≡ 0) × (f.op ≡ 0)
+
 -- a GETATTR that goes to its server
 pub record Forwards (owner : ℕ → Owner) (next now : ℕ) (f : Frame) : Type 0 where
   pub chosen : ℕ
@@ -114,7 +120,7 @@ pub record Answers (s : Setup) (owner : ℕ → Owner) (next now : ℕ) (f : Fra
   pub says : (r : Reply) → reply_in 1 packet ≡ Some r → r ≡ reply.Getattr (look_by s.volume (Some (owner f.tag).handle))
 
 pub data IsFine (s : Setup) (owner : ℕ → Owner) (next now : ℕ) (f : Flying) : Type 0 where
-  IsHello : f.frame.to ≡ 1 → f.frame.«body» ≡ body.Hello → IsFine s owner next now f
+  IsHello : f.frame.to ≡ 1 → f.frame.«body» ≡ body.Hello → IsBare f.frame → IsFine s owner next now f
   IsWelcome : f.frame.to ≡ 0 → f.frame.from ≡ 1 → f.frame.«body» ≡ body.Welcome → IsFine s owner next now f
   IsForward : f.frame.to ≡ 16 → f.frame.from ≡ 0 → Forwards owner next now f.frame → IsFine s owner next now f
   IsPacket : f.frame.to ≡ 0 → f.frame.from ≡ 16 → Answers s owner next now f.frame f.event → IsFine s owner next now f

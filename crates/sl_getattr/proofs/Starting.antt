@@ -1,5 +1,5 @@
 -- The opening of a new volume.
-use Rattle.std.proofs.Common.{◌≡◌, ℕ, ◌+◌, ◌%◌, ◌==◌, ◌<◌, ◌≤◌, ◌&&◌, ◌||◌, inl, inr, Bool, true, false, not, T, List, [], ◌∷◌, ◌++◌, map, Option, Some, None, refl, sym, ap, subst, ◌∙◌, cond, arith}
+use Rattle.std.proofs.Common.{◌≡◌, ℕ, ◌+◌, ◌*◌, ◌^◌, ◌%◌, ◌==◌, ◌<◌, ◌≤◌, ◌&&◌, ◌||◌, inl, inr, Bool, true, false, not, T, List, [], ◌∷◌, ◌++◌, map, Option, Some, None, refl, sym, ap, subst, ◌∙◌, cond, arith}
 use Rattle.std.specs.Prelude.{nat_lt}
 use Rattle.std.proofs.lemmas.List.{append-nil}
 use Rattle.std.proofs.lemmas.Bool.Decides.{nat_tests}
@@ -18,7 +18,7 @@ use Rattle.sl_history.specs.Turns.{Remark}
 use Rattle.sl_history.specs.Turns as note
 use Rattle.sl_history.specs.Placing.{carrier}
 use Rattle.sl_history.specs.Frames.{last_among, hello_fence}
-use Rattle.sl_machine.specs.Records.{Record, OfDir, cells_of, locked_in, started_of, root_cell, has_root}
+use Rattle.sl_machine.specs.Records.{starts_of, Record, OfDir, cells_of, locked_in, started_of, root_cell, has_root}
 use Rattle.sl_machine.specs.Memory.{Site, Coord, Proxy, Memory, Actor, OfProxy, OfCoord, OfSite, OfStore, no_soft}
 use Rattle.sl_machine.specs.World.{World, Opening, Founds, Segment, Told, nothing, scene, played, told, after_segment, appended, with_actor, quiet, numbered}
 use Rattle.sl_machine.specs.Proxies.{hello}
@@ -34,7 +34,7 @@ use Rattle.sl_getattr.specs.Built.{IsBlank}
 use Rattle.sl_getattr.proofs.Stepping.{Begun, Does, Falls, Spends, begun, same_some, same_proxy, not_none, not_both, any_directory_row}
 use Rattle.sl_getattr.proofs.Maps.{has_put, none_in}
 use Rattle.sl_getattr.proofs.Looking.{root_alone}
-use Rattle.sl_getattr.proofs.Sound.{IsCoordinator, IsDirectory}
+use Rattle.sl_getattr.proofs.Sound.{IsBare, IsCoordinator, IsDirectory}
 use Rattle.sl_getattr.proofs.Counting.{AreDowns, AreSent, downs_both, sent_both, numbered_sent, last_both}
 use Rattle.sl_getattr.proofs.Flights.{AllFly, fly_launched}
 use Rattle.sl_getattr.proofs.Doing.{Did, did_last, did_then, did_fall}
@@ -43,14 +43,14 @@ use Rattle.sl_getattr.proofs.Rows.{Founding, Makes, Opens, founds_row, apart}
 -- ---- what an actor holds when it was opened on an empty disk
 
 abbrev pub IsOpened : Setup → ℕ → Option Memory → List Record → Type 0
-IsOpened s i (Some (OfProxy p)) rs = (p.pending ≡ empty) × (p.soft ≡ no_soft) × (p.next_tag ≡ 1) × (p.welcomed ≡ false)
+IsOpened s i (Some (OfProxy p)) rs = (p.pending ≡ empty) × (p.soft ≡ no_soft) × (p.next_tag ≡ 1) × (p.welcomed ≡ false) × (0 < p.fence)
 IsOpened s i (Some (OfCoord m)) rs = IsCoordinator m rs
 IsOpened s i (Some (OfSite m)) rs = i ≡ 16 → IsDirectory s m rs
 IsOpened s i (Some (OfStore m)) rs = Unit {0}
 IsOpened s i None rs = Unit {0}
 
 abbrev pub IsHelloFrame : Frame → Type 0
-IsHelloFrame f = (f.to ≡ 1) × (f.«body» ≡ body.Hello)
+IsHelloFrame f = (f.to ≡ 1) × (f.«body» ≡ body.Hello) × IsBare f
 
 -- the proxy says hello under its fence, and nobody else sends anything
 pub record Says (i : ℕ) (m : Option Memory) (fs : List Frame) : Type 0 where
@@ -108,6 +108,10 @@ directory_opened s actor volume m same r = record {
 }
 
 -- ---- one actor, from where it has read its disk
+
+-- every fence is above 0
+positive : (starts : ℕ) → 0 < (starts + 1) * 2 ^ 32
+positive starts = omega arith
 
 fallen : (s : Setup) (i : ℕ) (w : World) (n : Told) (a : Actor) (w' : World) (n' : Told) → Did i w n w' n' None a.records [] (note.Down i ∷ []) → Opened s i w n w' n'
 fallen s i w n a w' n' did = record { memory = None; records = a.records; frames = []; notes = note.Down i ∷ []; did = did; opened = tt; hellos = tt; says = says_nothing i None refl; downs = tt }
@@ -183,8 +187,8 @@ module _ (s : Setup) (one : s.dirs ≡ 1) (i : ℕ) where
   module _ (w : World) (n : Told) (a : Actor) (w' : World) (n' : Told) (setup : w.setup ≡ s) (is : get w.actors i ≡ Some a) (down : a.memory ≡ None) (blank : a.records ≡ []) where
     proxy_first : (z : Segment) → i ≡ 0 → proxies.Opens a z → Steps i (z.todo ++ []) (played w i a z) (told w z n) w' n' → Opened s i w n w' n'
     proxy_first z here row steps = opened_last s i w n a z w' n' (ap (λ (z : Segment). z.todo) row.does)
-        (subst (λ (z : Segment). IsOpened s i (Some z.memory) (appended z.append a.records)) (sym row.does) (refl, refl, refl, refl))
-        (subst (λ (z : Segment). Each IsHelloFrame z.frames) (sym row.does) ((refl, refl), tt))
+        (subst (λ (z : Segment). IsOpened s i (Some z.memory) (appended z.append a.records)) (sym row.does) (refl, refl, refl, refl, positive (starts_of a.records)))
+        (subst (λ (z : Segment). Each IsHelloFrame z.frames) (sym row.does) ((refl, refl, (refl, refl, refl)), tt))
         (subst (λ (z : Segment). Says i (Some z.memory) z.frames) (sym row.does) (record {
           silent = λ other. absurd (other here);
           first = λ p is. ap (λ (q : Proxy). hello q.fence ∷ []) (same_proxy _ p is);
@@ -348,10 +352,14 @@ one_more s i is w n w' n' distinct so o = record {
   opened = λ j a there. by j a there (eq_by_cmp nat_cmp j i) refl;
   flight = subst (AllFly (λ f. IsHelloFrame f.frame)) (sym o.did.flight) (fly_launched (λ f. IsHelloFrame f.frame) w.flight w.next_frame w.event o.frames so.flight o.hellos);
   said = λ a p there up. speaks a p there up (eq_by_cmp nat_cmp 0 i) refl;
-  frames = subst AreSent (sym o.did.frames) (sent_both n.frames (numbered w.next_frame o.frames) so.frames (numbered_sent w.next_frame o.frames));
+  frames = subst AreSent (sym o.did.frames) (sent_both n.frames (numbered w.next_frame o.frames) so.frames (numbered_sent w.next_frame o.frames (hellos o.frames o.hellos)));
   notes = subst AreDowns (sym o.did.noted) (downs_both n.notes o.notes so.notes o.downs);
 }
   where
+    hellos : (fs : List Frame) → Each IsHelloFrame fs → Each (λ f. f.«body» ≡ body.Hello) fs
+    hellos [] each = tt
+    hellos (f ∷ fs) each = (each.0.1, hellos fs each.1)
+
     speaks : (a : Actor) (p : Proxy) → get w'.actors 0 ≡ Some a → a.memory ≡ Some (OfProxy p) → (b : Bool) → eq_by_cmp nat_cmp 0 i ≡ b → last_among hello_fence n'.frames ≡ Some p.fence
     speaks a p there up true e =
         ap (last_among hello_fence) (o.did.frames ∙ ap (λ fs. n.frames ++ numbered w.next_frame fs) (o.says.first p (sym o.did.memory

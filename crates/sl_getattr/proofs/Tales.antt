@@ -1,5 +1,5 @@
 -- Histories in which nothing takes effect: what goes on from turn to turn, and which notes are legal.
-use Rattle.std.proofs.Common.{◌≡◌, ℕ, ◌+◌, ◌<◌, ◌≤◌, ◌==◌, ◌&&◌, ◌||◌, Bool, true, false, List, [], ◌∷◌, ◌++◌, Some, refl, sym, ap, subst, ◌∙◌, arith, if◌then◌else◌}
+use Rattle.std.proofs.Common.{◌≡◌, ℕ, ◌+◌, ◌<◌, ◌≤◌, ◌==◌, ◌&&◌, ◌||◌, Bool, true, false, List, [], ◌∷◌, ◌++◌, None, Some, refl, sym, ap, subst, ◌∙◌, arith, if◌then◌else◌}
 use Rattle.std.specs.Prelude.{nat_le}
 use Rattle.std.proofs.lemmas.Bool.Decides.{nat_tests}
 use Rattle.sl_defs.specs.Histories.{Happening, Opens, Reaches, Happens, event_count}
@@ -14,10 +14,12 @@ use Rattle.sl_history.specs.Turns.{Remark, Sent, Did, Flush, Verf, Replied, Junk
 use Rattle.sl_history.specs.Arrivals.{Asked, IsAnswered, IsAsked, datagram, answer_to, is_changing}
 use Rattle.sl_history.specs.Volumes.{after_notes, volume_after, volume_at}
 use Rattle.sl_history.specs.Legal.{any_in, any_among, is_did, is_reply, was_dropped, datagram_in, IsLook, IsReply, IsDrop, IsReplyTo, IsReplyIf, IsAnswerBy, AllMayBeNoted, no_choice, is_settled}
-use Rattle.sl_history.specs.Frames.{is_up}
+use Rattle.sl_history.specs.Frames.{is_up, last_among, last_in, last_verf, verf_of}
 use Rattle.sl_history.specs.Licensed.{dropping}
 use Rattle.sl_machine.specs.World.{numbered}
 use Rattle.sl_getattr.proofs.Looking.{IsNew, look_by, performed}
+use Rattle.sl_getattr.proofs.Stepping.{not_none}
+use Rattle.sl_getattr.proofs.Licensing.{first_none, second_none}
 use Rattle.sl_getattr.proofs.Counting.{AreSent, AreDowns}
 use Rattle.sl_getattr.proofs.Sound.{Tale, IsOut, Owner}
 use Rattle.sl_machine.specs.Memory.{Waiting}
@@ -96,7 +98,7 @@ plain_drops (Lost m ∷ rs) plain = absurd plain
 
 pub sent_plain : (rs : List Remark) → AreSent rs → IsPlain rs
 sent_plain [] sent = tt
-sent_plain (Sent k f ∷ rs) sent = sent_plain rs sent
+sent_plain (Sent k f ∷ rs) sent = sent_plain rs sent.1
 sent_plain (Verf v ∷ rs) sent = absurd sent
 sent_plain (Down a ∷ rs) sent = absurd sent
 sent_plain (Did m at choice ∷ rs) sent = absurd sent
@@ -146,6 +148,20 @@ still_new number h (Early m ∷ rs) v none new = still_new number h rs v none ne
 still_new number h (Full m ∷ rs) v none new = still_new number h rs v none new
 still_new number h (Lost m ∷ rs) v none new = still_new number h rs v none new
 
+-- without a new verifier it stays
+verifier_stays : (h : History) (rs : List Remark) (v : Volume) → HasNoEffect rs → last_among verf_of rs ≡ None → (after_notes h rs v).verifier ≡ v.verifier
+verifier_stays h [] v none no_verf = refl
+verifier_stays h (Did m at choice ∷ rs) v none no_verf = absurd none
+verifier_stays h (Flush f ∷ rs) v none no_verf = absurd none
+verifier_stays h (Verf w ∷ rs) v none no_verf = absurd (not_none (second_none (last_among verf_of rs) (Some w) no_verf))
+verifier_stays h (Sent k f ∷ rs) v none no_verf = verifier_stays h rs v none (first_none (last_among verf_of rs) None no_verf)
+verifier_stays h (Down a ∷ rs) v none no_verf = verifier_stays h rs v none (first_none (last_among verf_of rs) None no_verf)
+verifier_stays h (Replied m e bytes ∷ rs) v none no_verf = verifier_stays h rs v none (first_none (last_among verf_of rs) None no_verf)
+verifier_stays h (Junk m ∷ rs) v none no_verf = verifier_stays h rs v none (first_none (last_among verf_of rs) None no_verf)
+verifier_stays h (Early m ∷ rs) v none no_verf = verifier_stays h rs v none (first_none (last_among verf_of rs) None no_verf)
+verifier_stays h (Full m ∷ rs) v none no_verf = verifier_stays h rs v none (first_none (last_among verf_of rs) None no_verf)
+verifier_stays h (Lost m ∷ rs) v none no_verf = verifier_stays h rs v none (first_none (last_among verf_of rs) None no_verf)
+
 -- ---- a turn more
 
 neither : (a b : Bool) → a ≡ false → b ≡ false → a || b ≡ false
@@ -170,11 +186,13 @@ tale_after s past t tale none = still_new s.volume (t ∷ past) t.remarks (volum
 
 pub tale_goes : (s : Setup) (past : History) (t : Turn) → Tale s past → HasNoEffect t.remarks → ((n : ℕ) → events (t ∷ past) < n → any_among (is_reply n) t.remarks ≡ false)
     → Tale s (t ∷ past)
-unfolding any_in volume_at
+unfolding any_in volume_after volume_at last_verf
 tale_goes s past t tale none replies = record {
   undone = λ n. neither (any_in (is_did n) past) (any_among (is_did n) t.remarks) (tale.undone n) (none_did n t.remarks none);
   unanswered = λ n less. neither (any_in (is_reply n) past) (any_among (is_reply n) t.remarks) (tale.unanswered n (before (events past) (event_count t.happening) n less)) (replies n less);
   after = tale_after s past t tale none;
+  verifier = λ no_verf. verifier_stays (t ∷ past) t.remarks (volume_after (fresh s.volume) past) none (first_none (last_among verf_of t.remarks) (last_in verf_of past) no_verf)
+      ∙ tale.verifier (second_none (last_among verf_of t.remarks) (last_in verf_of past) no_verf);
   at = λ e. by e (nat_le (events (t ∷ past)) e);
 }
   where

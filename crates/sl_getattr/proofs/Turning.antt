@@ -1,8 +1,9 @@
 -- Each turn keeps what holds, and its notes are legal.
-use Rattle.std.proofs.Common.{◌≡◌, ℕ, ◌+◌, ◌<◌, ◌≤◌, ◌==◌, ◌^◌, ◌&&◌, ◌||◌, true, false, not, List, [], ◌∷◌, ◌++◌, Option, Some, None, refl, sym, ap, subst, ◌∙◌, arith, nat_le, if◌then◌else◌}
+use Rattle.std.proofs.Common.{◌≡◌, ℕ, ◌+◌, ◌<◌, ◌≤◌, ◌==◌, ◌^◌, ◌&&◌, ◌||◌, Bool, true, false, not, List, [], ◌∷◌, ◌++◌, Option, Some, None, refl, sym, ap, subst, ◌∙◌, arith, nat_le, if◌then◌else◌}
+use Rattle.std.specs.Prelude.{option_and_then}
 use Rattle.std.specs.Ordering.{nat_cmp, eq_by_cmp}
 use Rattle.std.specs.FinMap.{get, insert, remove, len}
-use Rattle.sl_defs.specs.Histories.{Happening, Happens}
+use Rattle.sl_defs.specs.Histories.{event_count, Happening, Happens}
 use Rattle.sl_defs.specs.Items.{AreBytes}
 use Rattle.sl_defs.specs.declared.setup.Setup.{Setup}
 use Rattle.sl_defs.specs.declared.setup.Time.{Time}
@@ -16,10 +17,13 @@ use Rattle.sl_model.specs.Perform.{fresh}
 use Rattle.sl_frames.specs.declared.frame.Frame.{Frame}
 use Rattle.sl_frames.specs.declared.body.Body.TheVariants as body
 use Rattle.sl_history.specs.Turns as note
-use Rattle.sl_history.specs.Turns.{Remark, Sent, Replied, Junk, Early, Full, Lost, Turn, History, events, turn_of, datagram_of}
-use Rattle.sl_history.specs.Arrivals.{Asked, IsJunk, IsAnswered, IsAsked, datagram, asked_in, asked_by, answer_to, arrives, drops_any, dropped_by, most_waiting}
-use Rattle.sl_history.specs.Licensed.{dropping, due_drop, option_list}
-use Rattle.sl_history.specs.Frames.{hello_in}
+use Rattle.sl_history.specs.Turns.{Remark, Sent, Replied, Junk, Early, Full, Lost, Turn, History, events, so_far, turn_of, datagram_of}
+use Rattle.sl_history.specs.Arrivals.{Asked, IsJunk, IsAnswered, IsAsked, datagram, asked, asked_in, asked_by, answer_to, arrives, drops_any, dropped_by, most_waiting}
+use Rattle.sl_history.specs.Licensed as licensed
+use Rattle.sl_history.specs.Fenced as fenced
+use Rattle.sl_history.specs.Licensed.{flush_in, IsRenewal, may_be_lost, stops_one, dropping, due_drop, option_list}
+use Rattle.sl_history.specs.Frames.{hello_in, verf_of, last_in, last_verf}
+use Rattle.sl_history.specs.Volumes.{volume_after}
 use Rattle.sl_history.specs.Frames as history
 use Rattle.sl_history.specs.Legal.{any_in, any_among, is_reply, was_dropped, datagram_in, AllMayBeNoted}
 use Rattle.sl_machine.specs.Calls.{is_foreign}
@@ -30,11 +34,16 @@ use Rattle.sl_machine.specs.World.{World, Flying, Given, Arrives, Told, nothing,
 use Rattle.sl_machine.specs.Runs.{Steps, remarks_of}
 use Rattle.sl_transport.proofs.Proper.{Each}
 use Rattle.sl_getattr.specs.Built.{IsTaken}
-use Rattle.sl_getattr.proofs.Stepping.{not_both, same_proxy}
+use Rattle.sl_getattr.proofs.Stepping.{not_both, not_none, same_some, same_proxy}
 use Rattle.sl_getattr.proofs.Maps.{of_put, Put, IsNew, WasThere, of_removal}
 use Rattle.sl_getattr.proofs.Looking.{look_by}
-use Rattle.sl_getattr.proofs.Sound.{Owner, AsksFor, IsOut, IsProxy, Forwards, IsFine, IsWelcome, IsForward, IsPacket, IsSound, Sound}
-use Rattle.sl_getattr.proofs.Tales.{HasNoEffect, IsPlain, no_effect, no_reply, plain_drops, plain_both, plain_frames, plain_legal, drop_legal, answer_legal, at_once_legal, refusal_legal, own_turn, still_out}
+use Rattle.sl_getattr.proofs.Sound.{IsBare, Tale, Owner, AsksFor, IsOut, IsProxy, Forwards, IsFine, IsWelcome, IsForward, IsPacket, IsSound, Sound}
+use Rattle.sl_getattr.proofs.Tales.{HasNoEffect, IsPlain, no_effect, no_reply, plain_drops, plain_both, plain_frames, plain_legal, drop_legal, answer_legal, at_once_legal, refusal_legal, own_turn, same_turn, still_out}
+use Rattle.sl_getattr.proofs.Wiring.{AllWire, TellsNothing, IsAnswering, wire_both, frames_wire, downs_wire}
+use Rattle.sl_history.specs.Wired.{is_answer, fits}
+use Rattle.sl_history.specs.Frames.{IsGivenIn}
+use Rattle.sl_getattr.proofs.Fencing.{plain_fenced, waited_still, came_just_now, never_waited}
+use Rattle.sl_getattr.proofs.Licensing.{AreHarmless, harmless_both, harmless_frames, harmless_licensed, lost_before}
 use Rattle.sl_getattr.proofs.Counting.{Counted, IsCalm, calm_both, calm_frames, counted_calm, counted_verf, counted_waited, counted_refused, counted_asks, dropped_nothing, crowded_is, due_is}
 use Rattle.sl_getattr.proofs.Keys.{unknown_key}
 use Rattle.sl_getattr.proofs.Flights.{AllFly, fly_landed}
@@ -43,7 +52,7 @@ use Rattle.sl_getattr.proofs.Arriving.{AreShared, shared_by, holding, its_reques
 use Rattle.sl_getattr.proofs.Taking.{IsNote, OfJunk, OfAnswer, OfEarly, OfFull, IsIn, Arrival, Noted, Refused, Asks, arrives_so}
 use Rattle.sl_getattr.proofs.Using.{Usage, ForProxy, OfWelcome, OfPacket, uses_so}
 use Rattle.sl_getattr.proofs.Using as usage
-use Rattle.sl_getattr.proofs.Greeting.{IsCoordinatorIf, IsAnyWelcome, Greeted, greets_so}
+use Rattle.sl_getattr.proofs.Greeting.{IsCoordinatorIf, IsWelcomeTo, Greeted, greets_so}
 use Rattle.sl_getattr.proofs.Serving.{IsDirectoryIf, IsAnswerTo, Sends, Nothing, OneAnswer, Served, serves_so}
 use Rattle.sl_getattr.proofs.Going.{Extends, no_more, still_proxy, IsLeft, one_goes}
 
@@ -67,6 +76,9 @@ pub record Went (s : Setup) (past : History) (t : Turn) (w' : World) : Type 0 wh
   pub sound : Sound s (t ∷ past) w'
   pub legal : AllMayBeNoted (fresh s.volume) t past [] t.remarks
   pub drops : dropping t.remarks ≡ due_drop past t (datagram_of t.happening)
+  pub licensed : licensed.AllMayBeNoted (fresh s.volume) t past [] t.remarks
+  pub fenced : fenced.AllMayBeNoted t past [] t.remarks
+  pub wires : AllWire past t t.remarks
 
 abbrev pub turn : Happening → Time → List Remark → Turn
 turn x at rs = record { happening = x; moment = at; remarks = rs }
@@ -90,19 +102,51 @@ no_one i j other same = not_both (is_same j i same) other
     is_same : (a b : ℕ) → a ≡ b → (a == b) ≡ true
     is_same a b same = grind arith
 
+-- the call of this turn
+asked_now : (past : History) (t : Turn) (bytes : List ℕ) → event_count t.happening ≡ 1 → datagram_of t.happening ≡ Some bytes → asked (t ∷ past) (events past + 1) ≡ asked_in (datagram bytes)
+unfolding asked
+asked_now past t bytes one brings = ap (option_and_then asked_by) (own_turn past t one) ∙ ap (option_and_then (λ b. asked_in (datagram b))) brings
+
+-- a call that waits, as the history has it
+asked_by_datagram : (o : Option Turn) → option_and_then asked_by o ≡ option_and_then (λ b. asked_in (datagram b)) (datagram_in o)
+asked_by_datagram None = refl
+asked_by_datagram (Some t) = refl
+
+asked_out : (s : Setup) (past : History) (t : Turn) (owner : ℕ → Owner) (next n : ℕ) (c : Waiting) → IsOut s past owner next n c → asked (t ∷ past) n ≡ Some c.asked
+unfolding asked
+asked_out s past t owner next n c out =
+    ap (option_and_then asked_by) (same_turn past t n out.before) ∙ asked_by_datagram (turn_of past n) ∙ ap (option_and_then (λ b. asked_in (datagram b))) out.came ∙ ap asked_in out.read
+
+-- Before the first write verifier, the proxy's fence is a new one.
+first_verf : (s : Setup) (past : History) (t : Turn) (k : ℕ) (p : Proxy) → t.happening ≡ Happens (event.Give k) → Tale s past → Counted past p → p.welcomed ≡ false
+    → IsRenewal (fresh s.volume) (so_far t [] ∷ past) p.fence
+unfolding volume_after may_be_lost last_verf
+first_verf s past t k p is tale counted first = record {
+  greater = subst (λ v. v < p.fence) (sym (tale.verifier none)) counted.fence;
+  lost = ap (λ x. may_be_lost past || stops_one past x) is ∙ or_false (may_be_lost past) ∙ lost_before past none;
+}
+  where
+    none : last_in verf_of past ≡ None
+    none = counted.verf ∙ ap (λ b. if b then Some p.fence else None) first
+
+    or_false : (b : Bool) → b || false ≡ b
+    or_false true = refl
+    or_false false = refl
+
 module _ (forwards : ForwardsAreRead) (answers : AnswersAreRead) (s : Setup) (one : s.dirs ≡ 1) (past : History) (w : World) (owner : ℕ → Owner) (next : ℕ)
     (sound : IsSound s past w owner next) (at : Time) where
   -- ---- the coordinator is given a Hello
 
   pub given_hello : (k : ℕ) (f : Flying) (w' : World) (n' : Told) (a : Actor) (m : Coord) → get w.actors 1 ≡ Some a → a.memory ≡ Some (OfCoord m) → f.frame.«body» ≡ body.Hello
+      → f.frame.to ≡ 1 → IsBare f.frame → IsGivenIn past (turn (Happens (event.Give k)) at []) f.frame
       → Steps 1 (Given f.frame f.event ∷ []) (landed (begun w) k) nothing w' n' → Went s past (turn (Happens (event.Give k)) at (remarks_of n')) w'
-  given_hello k f w' n' a m is up kind steps =
+  given_hello k f w' n' a m is up kind to bare given steps =
       subst (λ rs. Went s past (turn (Happens (event.Give k)) at rs) w') (sym (remarks_are 1 v w' n' done.memory done.records done.frames done.notes done.did)) went
     where
       v : World
       v = landed (begun w) k
 
-      done : Greeted (landed (begun w) k) nothing w' n'
+      done : Greeted f.frame (landed (begun w) k) nothing w' n'
       done = greets_so (landed (begun w) k) nothing a m f.frame f.event w' n' is up (sound.coordinator a m is up) kind steps
 
       remarks : List Remark
@@ -121,13 +165,41 @@ module _ (forwards : ForwardsAreRead) (answers : AnswersAreRead) (s : Setup) (on
         directory = λ d is other. absurd (no_one 16 1 refl is);
       }
 
-      no_hello : (fs : List Frame) → Each IsAnyWelcome fs → Each (λ f. hello_in f f.«body» ≡ None) fs
+      answers_all : (fs : List Frame) → Each (IsWelcomeTo f.frame) fs → Each (λ g. (is_answer g.«body» ≡ true → IsAnswering past t g) × TellsNothing g.«body») fs
+      answers_all [] all = tt
+      answers_all (g ∷ fs) all = (
+        (
+          λ is. record {
+            asking = f.frame;
+            given = record { gives = given.gives; up = given.up };
+            answers = record {
+              kind = ap (λ b. fits b g.«body») kind ∙ ap (fits body.Hello) all.0.2;
+              sender = all.0.1 ∙ sym to;
+              receiver = all.0.0 ∙ sym bare.0;
+              fence = all.0.3;
+              tag = all.0.4 ∙ sym bare.1;
+              op = all.0.5 ∙ sym bare.2;
+            };
+          },
+          subst TellsNothing (sym all.0.2) tt,
+        ),
+        answers_all fs all.1,
+      )
+
+      no_flush : (fs : List Frame) → Each (IsWelcomeTo f.frame) fs → Each (λ f. flush_in f.«body» ≡ None) fs
+      no_flush [] all = tt
+      no_flush (g ∷ fs) all = (ap flush_in all.0.2, no_flush fs all.1)
+
+      no_hello : (fs : List Frame) → Each (IsWelcomeTo f.frame) fs → Each (λ f. hello_in f f.«body» ≡ None) fs
       no_hello [] all = tt
       no_hello (g ∷ fs) all = (ap (hello_in g) all.0.2, no_hello fs all.1)
 
-      each : (fs : List Frame) → Each IsAnyWelcome fs → Each (λ g. IsFine s owner next (events (t ∷ past)) (record { frame = g; event = events (t ∷ past) })) fs
+      each : (fs : List Frame) → Each (IsWelcomeTo f.frame) fs → Each (λ g. IsFine s owner next (events (t ∷ past)) (record { frame = g; event = events (t ∷ past) })) fs
       each [] all = tt
       each (g ∷ fs) all = (IsWelcome all.0.0 all.0.1 all.0.2, each fs all.1)
+
+      harmless : AreHarmless (numbered w.next_frame done.frames ++ done.notes)
+      harmless = harmless_both (numbered w.next_frame done.frames) done.notes (harmless_frames w.next_frame done.frames (no_flush done.frames done.welcomes)) done.harmless
 
       went : Went s past (turn (Happens (event.Give k)) at (numbered w.next_frame done.frames ++ done.notes)) w'
       went = record {
@@ -141,14 +213,17 @@ module _ (forwards : ForwardsAreRead) (answers : AnswersAreRead) (s : Setup) (on
         };
         legal = plain_legal (fresh s.volume) past t [] (numbered w.next_frame done.frames ++ done.notes) plain;
         drops = plain_drops (numbered w.next_frame done.frames ++ done.notes) plain;
+        licensed = harmless_licensed (fresh s.volume) past t [] (numbered w.next_frame done.frames ++ done.notes) harmless;
+        fenced = plain_fenced past t [] (numbered w.next_frame done.frames ++ done.notes) plain;
+        wires = wire_both past t (numbered w.next_frame done.frames) done.notes (frames_wire past t w.next_frame done.frames (answers_all done.frames done.welcomes)) (downs_wire past t done.notes done.downs);
       }
 
   -- ---- the directory server is given a forwarded GETATTR
 
   pub given_forward : (k : ℕ) (f : Flying) (w' : World) (n' : Told) (a : Actor) (m : Site) → get w.actors 16 ≡ Some a → a.memory ≡ Some (OfSite m) → f.frame.from ≡ 0
-      → Forwards owner next (events past) f.frame
+      → Forwards owner next (events past) f.frame → f.frame.to ≡ 16 → IsGivenIn past (turn (Happens (event.Give k)) at []) f.frame
       → Steps 16 (Given f.frame f.event ∷ []) (landed (begun w) k) nothing w' n' → Went s past (turn (Happens (event.Give k)) at (remarks_of n')) w'
-  given_forward k f w' n' a m is up from sent steps =
+  given_forward k f w' n' a m is up from sent to given steps =
       subst (λ rs. Went s past (turn (Happens (event.Give k)) at rs) w') (sym (remarks_are 16 (landed (begun w) k) w' n' done.memory done.records done.frames done.notes done.did)) went
     where
       h : Handle
@@ -186,6 +261,31 @@ module _ (forwards : ForwardsAreRead) (answers : AnswersAreRead) (s : Setup) (on
           itself : (a : ℕ) → a ≤ a
           itself a = omega arith
 
+      answer_one : (g : Frame) → IsAnswerTo s f.frame (owner f.frame.tag).handle g → (is_answer g.«body» ≡ true → IsAnswering past t g) × TellsNothing g.«body»
+      answer_one g answer = (
+        λ is. record {
+          asking = f.frame;
+          given = record { gives = given.gives; up = given.up };
+          answers = record {
+            kind = ap (λ b. fits b g.«body») sent.is ∙ ap (fits (body.Forward sent.chosen sent.packet)) answer.is;
+            sender = answer.from ∙ sym to;
+            receiver = answer.to;
+            fence = answer.fence;
+            tag = answer.tag;
+            op = answer.op;
+          };
+        },
+        subst TellsNothing (sym answer.is) tt,
+      )
+
+      answers_all : (fs : List Frame) → Sends s f.frame (owner f.frame.tag).handle fs → Each (λ g. (is_answer g.«body» ≡ true → IsAnswering past t g) × TellsNothing g.«body») fs
+      answers_all fs (Nothing is) = subst (Each (λ g. (is_answer g.«body» ≡ true → IsAnswering past t g) × TellsNothing g.«body»)) (sym is) tt
+      answers_all fs (OneAnswer g answer is) = subst (Each (λ g. (is_answer g.«body» ≡ true → IsAnswering past t g) × TellsNothing g.«body»)) (sym is) (answer_one g answer, tt)
+
+      no_flush : (fs : List Frame) → Sends s f.frame (owner f.frame.tag).handle fs → Each (λ f. flush_in f.«body» ≡ None) fs
+      no_flush fs (Nothing is) = subst (Each (λ f. flush_in f.«body» ≡ None)) (sym is) tt
+      no_flush fs (OneAnswer g answer is) = subst (Each (λ f. flush_in f.«body» ≡ None)) (sym is) (ap flush_in answer.is, tt)
+
       no_hello : (fs : List Frame) → Sends s f.frame (owner f.frame.tag).handle fs → Each (λ f. hello_in f f.«body» ≡ None) fs
       no_hello fs (Nothing is) = subst (Each (λ f. hello_in f f.«body» ≡ None)) (sym is) tt
       no_hello fs (OneAnswer g answer is) = subst (Each (λ f. hello_in f f.«body» ≡ None)) (sym is) (ap (hello_in g) answer.is, tt)
@@ -193,6 +293,9 @@ module _ (forwards : ForwardsAreRead) (answers : AnswersAreRead) (s : Setup) (on
       each : (fs : List Frame) → Sends s f.frame (owner f.frame.tag).handle fs → Each (λ g. IsFine s owner next (events (t ∷ past)) (record { frame = g; event = events (t ∷ past) })) fs
       each fs (Nothing is) = subst (Each (λ g. IsFine s owner next (events (t ∷ past)) (record { frame = g; event = events (t ∷ past) }))) (sym is) tt
       each fs (OneAnswer g answer is) = subst (Each (λ g. IsFine s owner next (events (t ∷ past)) (record { frame = g; event = events (t ∷ past) }))) (sym is) (fine g answer, tt)
+
+      harmless : AreHarmless (numbered w.next_frame done.frames ++ done.notes)
+      harmless = harmless_both (numbered w.next_frame done.frames) done.notes (harmless_frames w.next_frame done.frames (no_flush done.frames done.sends)) done.harmless
 
       went : Went s past (turn (Happens (event.Give k)) at (numbered w.next_frame done.frames ++ done.notes)) w'
       went = record {
@@ -207,6 +310,9 @@ module _ (forwards : ForwardsAreRead) (answers : AnswersAreRead) (s : Setup) (on
         };
         legal = plain_legal (fresh s.volume) past t [] (numbered w.next_frame done.frames ++ done.notes) plain;
         drops = plain_drops (numbered w.next_frame done.frames ++ done.notes) plain;
+        licensed = harmless_licensed (fresh s.volume) past t [] (numbered w.next_frame done.frames ++ done.notes) harmless;
+        fenced = plain_fenced past t [] (numbered w.next_frame done.frames ++ done.notes) plain;
+        wires = wire_both past t (numbered w.next_frame done.frames) done.notes (frames_wire past t w.next_frame done.frames (answers_all done.frames done.sends)) (downs_wire past t done.notes done.downs);
       }
 
   -- ---- the proxy acts
@@ -253,9 +359,15 @@ module _ (forwards : ForwardsAreRead) (answers : AnswersAreRead) (s : Setup) (on
       flying : AllFly (IsFine s owner next (events past)) (landed (begun w) k).flight
       flying = fly_landed (IsFine s owner next (events past)) w.flight k sound.flight
 
+      -- the first write verifier is due
+      renewal : p.welcomed ≡ false → IsRenewal (fresh s.volume) (so_far (turn (Happens (event.Give k)) at (note.Verf p.fence ∷ [])) [] ∷ past) p.fence
+      renewal first = first_verf s past (turn (Happens (event.Give k)) at (note.Verf p.fence ∷ [])) k p refl sound.tale proxy.counted first
+
       plainly : (q : Proxy) (notes : List Remark) → IsPlain notes → q.soft ≡ p.soft → q.next_tag ≡ p.next_tag → q.pending ≡ p.pending → Counted (turn (Happens (event.Give k)) at notes ∷ past) q
+          → licensed.AllMayBeNoted (fresh s.volume) (turn (Happens (event.Give k)) at notes) past [] notes
+          → AllWire past (turn (Happens (event.Give k)) at notes) notes
           → Did 0 (landed (begun w) k) nothing w' n' (Some (OfProxy q)) a.records [] notes → Went s past (turn (Happens (event.Give k)) at (remarks_of n')) w'
-      plainly q notes plain soft tag same counted did = subst (λ rs. Went s past (turn (Happens (event.Give k)) at rs) w') (sym (remarks_are 0 (landed (begun w) k) w' n' _ _ _ _ did)) (record {
+      plainly q notes plain soft tag same counted may wires did = subst (λ rs. Went s past (turn (Happens (event.Give k)) at rs) w') (sym (remarks_are 0 (landed (begun w) k) w' n' _ _ _ _ did)) (record {
         sound = record {
           owner = owner;
           next = next;
@@ -266,12 +378,15 @@ module _ (forwards : ForwardsAreRead) (answers : AnswersAreRead) (s : Setup) (on
         };
         legal = plain_legal (fresh s.volume) past (turn (Happens (event.Give k)) at notes) [] notes plain;
         drops = plain_drops notes plain;
+        licensed = may;
+        fenced = plain_fenced past (turn (Happens (event.Give k)) at notes) [] notes plain;
+        wires = wires;
       })
 
       by : Usage s past owner next (events past) (landed (begun w) k) a.records p f.frame f.event w' n' → Went s past (turn (Happens (event.Give k)) at (remarks_of n')) w'
-      by (usage.Passed did) = plainly p [] tt refl refl refl (counted_calm past (turn (Happens (event.Give k)) at []) p tt refl proxy.counted) did
+      by (usage.Passed did) = plainly p [] tt refl refl refl (counted_calm past (turn (Happens (event.Give k)) at []) p tt refl proxy.counted) tt tt did
       by (usage.Welcomed first fence did) = plainly (record p { welcomed = true }) (note.Verf p.fence ∷ []) tt refl refl refl
-          (counted_verf past (turn (Happens (event.Give k)) at (note.Verf p.fence ∷ [])) p refl first proxy.counted) did
+          (counted_verf past (turn (Happens (event.Give k)) at (note.Verf p.fence ∷ [])) p refl first proxy.counted) (renewal first, tt) (tt, tt) did
       by (usage.Replied n c there out before after did) = subst (λ rs. Went s past (turn (Happens (event.Give k)) at rs) w') (sym (remarks_are 0 (landed (begun w) k) w' n' _ _ _ _ did)) (record {
         sound = record {
           owner = owner;
@@ -286,6 +401,9 @@ module _ (forwards : ForwardsAreRead) (answers : AnswersAreRead) (s : Setup) (on
         };
         legal = (answer_legal s past (turn (Happens (event.Give k)) at (Replied n f.event bytes ∷ [])) owner next n f.event c sound.tale refl before after out, tt);
         drops = refl;
+        licensed = (tt, tt);
+        fenced = (waited_still past (turn (Happens (event.Give k)) at (Replied n f.event bytes ∷ [])) p n c refl proxy.counted there, tt);
+        wires = (λ q asked. (out.object, ap (λ (a : Asked). a.call) (same_some (sym asked ∙ asked_out s past (turn (Happens (event.Give k)) at (Replied n f.event bytes ∷ [])) owner next n c out)) ∙ out.asks), tt);
       })
         where
           bytes : List ℕ
@@ -302,8 +420,11 @@ module _ (forwards : ForwardsAreRead) (answers : AnswersAreRead) (s : Setup) (on
       → ((m : ℕ) → events past + 1 < m → any_among (is_reply m) (r ∷ []) ≡ false) → ((m : ℕ) → m ≤ events past → any_among (is_reply m) (r ∷ []) ≡ false)
       → AllMayBeNoted (fresh s.volume) (turn (Happens (event.Call client bytes)) at (r ∷ [])) past [] (r ∷ [])
       → Counted (turn (Happens (event.Call client bytes)) at (r ∷ []) ∷ past) q → dropping (r ∷ []) ≡ option_list (dropped_by past (events past + 1) bytes)
+      → licensed.AllMayBeNoted (fresh s.volume) (turn (Happens (event.Call client bytes)) at (r ∷ [])) past [] (r ∷ [])
+      → fenced.AllMayBeNoted (turn (Happens (event.Call client bytes)) at (r ∷ [])) past [] (r ∷ [])
+      → AllWire past (turn (Happens (event.Call client bytes)) at (r ∷ [])) (r ∷ [])
       → Did 0 (begun w) nothing w' n' (Some (OfProxy q)) rs [] (r ∷ []) → Went s past (turn (Happens (event.Call client bytes)) at (remarks_of n')) w'
-  noted_goes client bytes w' n' p q rs r proxy soft tag calls none ahead behind legal counted drops did =
+  noted_goes client bytes w' n' p q rs r proxy soft tag calls none ahead behind legal counted drops may still wires did =
       subst (λ rs. Went s past (turn (Happens (event.Call client bytes)) at rs) w') (sym (remarks_are 0 (begun w) w' n' _ _ _ _ did)) (record {
         sound = record {
           owner = owner;
@@ -316,6 +437,9 @@ module _ (forwards : ForwardsAreRead) (answers : AnswersAreRead) (s : Setup) (on
         };
         legal = legal;
         drops = drops;
+        licensed = may;
+        fenced = still;
+        wires = wires;
       })
 
   earlier_reply : (m e : ℕ) (bytes : List ℕ) → m ≤ events past → any_among (is_reply m) (Replied (events past + 1) e bytes ∷ []) ≡ false
@@ -364,7 +488,7 @@ module _ (forwards : ForwardsAreRead) (answers : AnswersAreRead) (s : Setup) (on
     noted_so r (OfJunk read what) did = noted_goes client bytes w' n' p p a.records (Junk (events past + 1)) the_proxy refl refl (λ n c there. there) tt (λ m less. refl) (λ m less. refl)
         (drop_legal s past (turn (Happens (event.Call client bytes)) at (Junk (events past + 1) ∷ [])) sound.tale refl, tt)
         (kept_by (Junk (events past + 1)) tt (drops_itself (events past + 1)))
-        (sym (ap option_list (due_is past (events past + 1) bytes IsJunk alive read)))
+        (sym (ap option_list (due_is past (events past + 1) bytes IsJunk alive read))) (tt, tt) (tt, tt) (tt, tt)
         (subst (λ r. Did 0 (begun w) nothing w' n' (Some (OfProxy p)) a.records [] (r ∷ [])) (what ∙ ap Junk number) did)
     noted_so r (OfAnswer answer read what) did = noted_goes client bytes w' n' p p a.records (Replied (events past + 1) (events past + 1) answer) the_proxy refl refl (λ n c there. there) tt
         (λ m less. later_reply (events past + 1) m (events past + 1) answer less) (λ m less. earlier_reply m (events past + 1) answer less) (
@@ -373,13 +497,19 @@ module _ (forwards : ForwardsAreRead) (answers : AnswersAreRead) (s : Setup) (on
           tt,
         )
         (answered_at_once answer (ap asked_in read))
-        (sym (ap option_list (due_is past (events past + 1) bytes (IsAnswered answer) alive read)))
+        (sym (ap option_list (due_is past (events past + 1) bytes (IsAnswered answer) alive read))) (tt, tt) (
+          never_waited (record { happening = Happens (event.Call client bytes); moment = at; remarks = [] } ∷ past) (events past + 1)
+              (asked_now past (record { happening = Happens (event.Call client bytes); moment = at; remarks = [] }) bytes refl refl ∙ ap asked_in read),
+          tt,
+        )
+        (λ q asked. absurd (not_none (sym asked ∙ asked_now past (turn (Happens (event.Call client bytes)) at (Replied (events past + 1) (events past + 1) answer ∷ [])) bytes refl refl ∙ ap asked_in read)), tt)
         (subst (λ r. Did 0 (begun w) nothing w' n' (Some (OfProxy p)) a.records [] (r ∷ [])) (what ∙ ap (λ k. Replied k k answer) number) did)
     noted_so r (OfEarly q read early what) did = noted_goes client bytes w' n' p p a.records (Early (events past + 1)) the_proxy refl refl (λ n c there. there) tt (λ m less. refl) (λ m less. refl)
         (drop_legal s past (turn (Happens (event.Call client bytes)) at (Early (events past + 1) ∷ [])) sound.tale refl, tt)
         (kept_by (Early (events past + 1)) tt (drops_itself (events past + 1)))
         (sym (ap option_list (due_is past (events past + 1) bytes (IsAsked q) alive read ∙ crowded_is past p (events past + 1) the_proxy.counted
         ∙ ap (λ b. if not b then Some (Early (events past + 1)) else if nat_le most_waiting (len p.pending) then Some (Full (events past + 1)) else None) early)))
+        (tt, tt) (tt, tt) (tt, tt)
         (subst (λ r. Did 0 (begun w) nothing w' n' (Some (OfProxy p)) a.records [] (r ∷ [])) (what ∙ ap Early number) did)
     noted_so r (OfFull q read welcomed full what) did = noted_goes client bytes w' n' p p a.records (Full (events past + 1)) the_proxy refl refl (λ n c there. there) tt (λ m less. refl) (λ m less. refl)
         (drop_legal s past (turn (Happens (event.Call client bytes)) at (Full (events past + 1) ∷ [])) sound.tale refl, tt)
@@ -387,6 +517,7 @@ module _ (forwards : ForwardsAreRead) (answers : AnswersAreRead) (s : Setup) (on
         (sym (ap option_list (due_is past (events past + 1) bytes (IsAsked q) alive read ∙ crowded_is past p (events past + 1) the_proxy.counted
         ∙ ap (λ b. if not b then Some (Early (events past + 1)) else if nat_le most_waiting (len p.pending) then Some (Full (events past + 1)) else None) welcomed
         ∙ ap (λ b. if b then Some (Full (events past + 1)) else None) full)))
+        (tt, tt) (tt, tt) (tt, tt)
         (subst (λ r. Did 0 (begun w) nothing w' n' (Some (OfProxy p)) a.records [] (r ∷ [])) (what ∙ ap Full number) did)
 
     refused_so : (object : List ℕ) (q : Asked) → IsIn p bytes object q
@@ -401,7 +532,18 @@ module _ (forwards : ForwardsAreRead) (answers : AnswersAreRead) (s : Setup) (on
         (subst (λ k. Counted (turn (Happens (event.Call client bytes)) at (Replied (events past + 1) (events past + 1) answer ∷ []) ∷ past) (record p { pending = remove p.pending k })) (sym number)
         (counted_refused past (turn (Happens (event.Call client bytes)) at (Replied (events past + 1) (events past + 1) answer ∷ [])) p (events past + 1) (events past + 1) answer refl
         (ap (λ d. arrives (events past + 1) (turn (Happens (event.Call client bytes)) at (Replied (events past + 1) (events past + 1) answer ∷ [])) (asked_in d)) let_in.read) the_proxy.counted))
-        (sym (none_due object q let_in))
+        (sym (none_due object q let_in)) (tt, tt) (
+          came_just_now past (turn (Happens (event.Call client bytes)) at (Replied (events past + 1) (events past + 1) answer ∷ [])) (events past + 1)
+              (ap (λ d. arrives (events past + 1) (record { happening = Happens (event.Call client bytes); moment = at; remarks = [] }) (asked_in d)) let_in.read),
+          tt,
+        ) (
+          λ z asked. (
+            object,
+            ap (λ (a : Asked). a.call) (same_some (sym asked
+                ∙ asked_now past (turn (Happens (event.Call client bytes)) at (Replied (events past + 1) (events past + 1) answer ∷ [])) bytes refl refl ∙ ap asked_in let_in.read)) ∙ let_in.asks,
+          ),
+          tt,
+        )
         (subst (λ r. Did 0 (begun w) nothing w' n' (Some (OfProxy (record p { pending = remove p.pending (w.event + 1) }))) a.records [] (r ∷ []))
         (ap (λ k. Replied k k (answer_to q (reply.Getattr (look_by w.setup.volume (handle_of object))))) number
         ∙ ap (λ z. Replied (events past + 1) (events past + 1) (answer_to q (reply.Getattr (look_by z.volume (handle_of object))))) sound.setup) did)
@@ -438,6 +580,9 @@ module _ (forwards : ForwardsAreRead) (answers : AnswersAreRead) (s : Setup) (on
           };
           legal = (tt, tt);
           drops = sym (none_due object q let_in);
+          licensed = (tt, tt);
+          fenced = (tt, tt);
+          wires = ((λ is. absurd (not_both is refl), tt), tt);
         })
       where
         t : Turn

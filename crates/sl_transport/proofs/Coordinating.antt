@@ -15,22 +15,27 @@ use Rattle.sl_machine.specs.Memory.{Site, Vote, Coord, Actor, OfCoord}
 use Rattle.sl_machine.specs.World.{Scene, Task, Proceeds, Segment}
 use Rattle.sl_machine.specs.Verdicts.{Verdict, OldFence, IsKept, Answers, for_coordinator, verdict, seen, keeping}
 use Rattle.sl_machine.specs.Coordinators.{still, heard_from, has_voted, all_voted, is_among, servers_of, locks_of, finals_of, frame_to, final, decided_frame, note_by, note_if, keeps_decision, decides, granted_by, acknowledged_by, ends, on_undecided, on_decided, votes_on, votes, takes, waits, is_started, done_for, by_verdict, admits, again_for, again, started_by, CoordinatorRow, IsRenewed, IsAdmitted, IsRefused, IsStarted, IsWelcomed, IsResting, IsSentAgain}
+use Rattle.sl_transport.specs.Kinds.{asks}
 use Rattle.sl_transport.proofs.Proper.{Plain, Each, KeptIn, Proper, either, each_either, each_both}
 use Rattle.sl_transport.proofs.Kept.{kept_seen, kept_renewed, kept_put}
 use Rattle.sl_transport.proofs.Judging.{OfVerdict, of_verdict}
 
-module _ (S : Frame → Type 0) (own : (f : Frame) → f.from ≡ 1 → S f) where
+final_tells : (agreed : Bool) → asks (final agreed) ≡ false
+final_tells true = refl
+final_tells false = refl
+
+module _ (S : Frame → Type 0) (own : (f : Frame) → f.from ≡ 1 → asks f.body ≡ false → S f) where
   stays : (m : Coord) (todo : List Task) → KeptIn S m.site → Proper S (still m todo)
   stays m todo kept = record { notes = tt; frames = tt; memory = kept }
 
   each_lock : (s : Started) (vs : List Vote) (ps : List Part) → Each S (locks_of s vs ps)
   each_lock s vs [] = tt
-  each_lock s vs (p ∷ ps) = each_either S (has_voted vs s.op p.actor) (locks_of s vs ps) (frame_to s p.actor p.boot (body.Lock p.work) ∷ locks_of s vs ps) (each_lock s vs ps) (own _ refl, each_lock s vs ps)
+  each_lock s vs (p ∷ ps) = each_either S (has_voted vs s.op p.actor) (locks_of s vs ps) (frame_to s p.actor p.boot (body.Lock p.work) ∷ locks_of s vs ps) (each_lock s vs ps) (own _ refl refl, each_lock s vs ps)
 
   each_final : (s : Started) (agreed : Bool) (vs : List Vote) (ps : List Part) → Each S (finals_of s agreed vs ps)
   each_final s agreed vs [] = tt
   each_final s agreed vs (p ∷ ps) =
-      each_either S (has_voted vs s.op p.actor) (finals_of s agreed vs ps) (frame_to s p.actor 0 (final agreed) ∷ finals_of s agreed vs ps) (each_final s agreed vs ps) (own _ refl, each_final s agreed vs ps)
+      each_either S (has_voted vs s.op p.actor) (finals_of s agreed vs ps) (frame_to s p.actor 0 (final agreed) ∷ finals_of s agreed vs ps) (each_final s agreed vs ps) (own _ refl (final_tells agreed), each_final s agreed vs ps)
 
   plain_by : (s : Started) (o : What) → Plain (note_by s o ∷ [])
   plain_by s (what.Call chosen kept) = tt
@@ -44,7 +49,7 @@ module _ (S : Frame → Type 0) (own : (f : Frame) → f.from ≡ 1 → S f) whe
   kept_decision s agreed site kept = by (s.request.fence == site.fence && nat_le site.low s.request.tag)
     where
       by : (b : Bool) → KeptIn S (cond b (keeping s.request.tag (decided_frame s agreed) site) site)
-      by true = kept_put S s.request.tag (decided_frame s agreed) site (own _ refl) kept
+      by true = kept_put S s.request.tag (decided_frame s agreed) site (own _ refl refl) kept
       by false = kept
 
   decides_proper : (m : Coord) (s : Started) (agreed : Bool) (tells : List Frame) → KeptIn S m.site → Each S tells → Proper S (decides m s agreed tells)
@@ -56,8 +61,8 @@ module _ (S : Frame → Type 0) (own : (f : Frame) → f.from ≡ 1 → S f) whe
 
   undecided_proper : (m : Coord) (f : Frame) (b : Body) (s : Started) → KeptIn S m.site → Proper S (on_undecided m f b s)
   undecided_proper m f body.Grant s kept =
-      either (all_voted (granted_by m f).granted s) (decides_proper (granted_by m f) s true (decided_frame s true ∷ []) kept (own _ refl, tt)) (stays (granted_by m f) [] kept)
-  undecided_proper m f body.Refuse s kept = decides_proper m s false (decided_frame s false ∷ []) kept (own _ refl, tt)
+      either (all_voted (granted_by m f).granted s) (decides_proper (granted_by m f) s true (decided_frame s true ∷ []) kept (own _ refl refl, tt)) (stays (granted_by m f) [] kept)
+  undecided_proper m f body.Refuse s kept = decides_proper m s false (decided_frame s false ∷ []) kept (own _ refl refl, tt)
   undecided_proper m f other s kept = stays m [] kept
 
   ends_proper : (m : Coord) (s : Started) → KeptIn S m.site → Proper S (ends m s)
@@ -117,6 +122,6 @@ module _ (S : Frame → Type 0) (own : (f : Frame) → f.from ≡ 1 → S f) whe
   coordinator_proper x a m t s kept (IsRefused op is row) = subst (Proper S) (sym row.does) (decides_proper m row.started false [] kept tt)
   coordinator_proper x a m t s kept (IsStarted is row) =
       subst (Proper S) (sym row.does) (record { notes = tt; frames = each_lock (started_by a row.next) [] row.next.intent.parts; memory = kept })
-  coordinator_proper x a m t s kept (IsWelcomed is row) = subst (Proper S) (sym row.does) (record { notes = tt; frames = (own _ refl, tt); memory = kept })
+  coordinator_proper x a m t s kept (IsWelcomed is row) = subst (Proper S) (sym row.does) (record { notes = tt; frames = (own _ refl refl, tt); memory = kept })
   coordinator_proper x a m t s kept (IsResting is row) = subst (Proper S) (sym row.does) (stays m [] kept)
   coordinator_proper x a m t s kept (IsSentAgain is row) = subst (Proper S) (sym row.does) (record { notes = tt; frames = all_again a.records m (unfinished a.records); memory = kept })

@@ -15,6 +15,7 @@ use Rattle.sl_machine.specs.Records.{Record, OfDir, decision_of, started_of}
 use Rattle.sl_machine.specs.Memory.{Site, Coord}
 use Rattle.sl_machine.specs.Verdicts.{seen, lowered, renewed, keeping}
 use Rattle.sl_machine.specs.Openings.{RestoredSite, RestoredCoord, restored, answer_in, answer_of, decided_by, decided_for}
+use Rattle.sl_transport.specs.Kinds.{asks}
 use Rattle.sl_transport.proofs.Proper.{KeptIn}
 
 -- ---- of a frame, if there is one
@@ -63,21 +64,21 @@ kept_put S tag answer s is h q = there S (get (insert s.kept tag answer) q)
 
 -- ---- what records tell
 
-answers_in : (S : Frame → Type 0) (actor fence tag : ℕ) → ((f : Frame) → f.from ≡ actor → S f) → (r : Record) → IfThere S (answer_in actor fence tag r)
-answers_in S actor fence tag own (OfDir (dir.Mint m)) = there_if S (m.fence == fence && m.tag == tag) (Some (restored actor fence tag (body.Minted m.fileid))) None (own (restored actor fence tag (body.Minted m.fileid)) refl) tt
+answers_in : (S : Frame → Type 0) (actor fence tag : ℕ) → ((f : Frame) → f.from ≡ actor → asks f.body ≡ false → S f) → (r : Record) → IfThere S (answer_in actor fence tag r)
+answers_in S actor fence tag own (OfDir (dir.Mint m)) = there_if S (m.fence == fence && m.tag == tag) (Some (restored actor fence tag (body.Minted m.fileid))) None (own (restored actor fence tag (body.Minted m.fileid)) refl refl) tt
 answers_in S actor fence tag own (OfDir (dir.Did d)) =
-    there_if S (d.request.fence == fence && d.request.tag == tag) (Some (restored actor fence tag (body.Packet d.reply))) None (own (restored actor fence tag (body.Packet d.reply)) refl) tt
+    there_if S (d.request.fence == fence && d.request.tag == tag) (Some (restored actor fence tag (body.Packet d.reply))) None (own (restored actor fence tag (body.Packet d.reply)) refl refl) tt
 answers_in S actor fence tag own other = tt
 
-answers_of : (S : Frame → Type 0) (actor fence tag : ℕ) → ((f : Frame) → f.from ≡ actor → S f) → (rs : List Record) → IfThere S (answer_of actor rs fence tag)
+answers_of : (S : Frame → Type 0) (actor fence tag : ℕ) → ((f : Frame) → f.from ≡ actor → asks f.body ≡ false → S f) → (rs : List Record) → IfThere S (answer_of actor rs fence tag)
 answers_of S actor fence tag own [] = tt
 answers_of S actor fence tag own (r ∷ rs) = there_either S (answer_in actor fence tag r) (answer_of actor rs fence tag) (answers_in S actor fence tag own r) (answers_of S actor fence tag own rs)
 
-by_decision : (S : Frame → Type 0) → ((f : Frame) → f.from ≡ 1 → S f) → (s : Started) (o : Option Bool) → IfThere S (decided_by s o)
+by_decision : (S : Frame → Type 0) → ((f : Frame) → f.from ≡ 1 → asks f.body ≡ false → S f) → (s : Started) (o : Option Bool) → IfThere S (decided_by s o)
 by_decision S own s None = tt
-by_decision S own s (Some agreed) = own _ refl
+by_decision S own s (Some agreed) = own _ refl refl
 
-decisions_of : (S : Frame → Type 0) → ((f : Frame) → f.from ≡ 1 → S f) → (rs : List Record) (fence tag : ℕ) (ss : List Started) → IfThere S (decided_for rs fence tag ss)
+decisions_of : (S : Frame → Type 0) → ((f : Frame) → f.from ≡ 1 → asks f.body ≡ false → S f) → (rs : List Record) (fence tag : ℕ) (ss : List Started) → IfThere S (decided_for rs fence tag ss)
 decisions_of S own rs fence tag [] = tt
 decisions_of S own rs fence tag (s ∷ ss) = there_if S (s.request.fence == fence && s.request.tag == tag) (decided_by s (decision_of rs s.op)) (decided_for rs fence tag ss) (by_decision S own s (decision_of rs s.op)) (decisions_of S own rs fence tag ss)
 
@@ -95,10 +96,10 @@ above_or_none S low tag o p above below h = by (nat_lt tag low) refl
     by true e = subst (IfThere S) (sym (below (is_below e))) tt
     by false e = subst (IfThere S) (sym (above (is_above e))) h
 
-pub kept_restored : (S : Frame → Type 0) (actor : ℕ) (rs : List Record) (s : Site) → ((f : Frame) → f.from ≡ actor → S f) → RestoredSite actor rs s → KeptIn S s
+pub kept_restored : (S : Frame → Type 0) (actor : ℕ) (rs : List Record) (s : Site) → ((f : Frame) → f.from ≡ actor → asks f.body ≡ false → S f) → RestoredSite actor rs s → KeptIn S s
 kept_restored S actor rs s own r tag = there S (get s.kept tag)
     (above_or_none S s.low tag (get s.kept tag) (answer_of actor rs s.fence tag) (r.kept tag) (r.gone tag) (answers_of S actor s.fence tag own rs))
 
-pub kept_decided : (S : Frame → Type 0) (rs : List Record) (m : Coord) → ((f : Frame) → f.from ≡ 1 → S f) → RestoredCoord rs m → KeptIn S m.site
+pub kept_decided : (S : Frame → Type 0) (rs : List Record) (m : Coord) → ((f : Frame) → f.from ≡ 1 → asks f.body ≡ false → S f) → RestoredCoord rs m → KeptIn S m.site
 kept_decided S rs m own r tag = there S (get m.site.kept tag)
     (above_or_none S m.site.low tag (get m.site.kept tag) (decided_for rs m.site.fence tag (started_of rs)) (r.kept tag) (r.gone tag) (decisions_of S own rs m.site.fence tag (started_of rs)))

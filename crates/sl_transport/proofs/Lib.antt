@@ -15,3 +15,9 @@ pub mod Counting
 pub mod Ups
 pub mod Opening
 pub mod Sending
+pub mod Asking
+pub mod Telling
+pub mod Requesting
+pub mod Asks
+pub mod Welcoming
+pub mod Answering

@@ -45,7 +45,7 @@ not_below i (e ∷ es) h =
     ap (λ b. b || Has (map (λ e. e.0) es) i) (less_apart (nat_cmp i e.0) (first_of_both (is_lt (nat_cmp i e.0)) (below_all nat_cmp i es) h))
     ∙ not_below i es (second_of_both (is_lt (nat_cmp i e.0)) (below_all nat_cmp i es) h)
 
-distinct_keys : {X : Type 0} (es : List (ℕ × X)) → T (is_sorted nat_cmp es) → AreDistinct (map (λ e. e.0) es)
+pub distinct_keys : {X : Type 0} (es : List (ℕ × X)) → T (is_sorted nat_cmp es) → AreDistinct (map (λ e. e.0) es)
 distinct_keys [] h = tt
 distinct_keys (e ∷ es) h = (
   not_below e.0 es (first_of_both (below_all nat_cmp e.0 es) (is_sorted nat_cmp es) h),

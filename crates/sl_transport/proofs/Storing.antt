@@ -15,30 +15,31 @@ use Rattle.sl_machine.specs.Memory.{Store, Actor, OfStore}
 use Rattle.sl_machine.specs.World.{Scene, Task, Segment}
 use Rattle.sl_machine.specs.Verdicts.{Verdict, OldFence, Stray, Finished, Parks, IsKept, BelowLow, Answers, for_store, verdict, seen, parked, is_operating, is_same_request, is_locked_for, answering}
 use Rattle.sl_machine.specs.Stores.{own_boot, still, answers, again_acknowledged, keeps_packet, serves_call, serves, with_kept, locks, finishes, relies_wrongly, done_for, by_verdict, admits, Boots, StoreRow, IsRenewed, IsAdmitted, IsTakenUp}
+use Rattle.sl_transport.specs.Kinds.{asks}
 use Rattle.sl_transport.proofs.Proper.{KeptIn, Proper, either}
 use Rattle.sl_transport.proofs.Kept.{kept_seen, kept_renewed, kept_empty, kept_put}
 use Rattle.sl_transport.proofs.Judging.{OfVerdict, of_verdict}
 
-module _ (S : Frame → Type 0) (x : Scene) (own : (f : Frame) → f.from ≡ x.actor → S f) where
+module _ (S : Frame → Type 0) (x : Scene) (own : (f : Frame) → f.from ≡ x.actor → asks f.body ≡ false → S f) where
   stays : (m : Store) → KeptIn S m.site → Proper S (still m)
   stays m kept = record { notes = tt; frames = tt; memory = kept }
 
-  answers_proper : (a : Actor) (m : Store) (f : Frame) (b : Body) → KeptIn S m.site → Proper S (answers x a m f b)
-  answers_proper a m f b kept = record { notes = tt; frames = (own _ refl, tt); memory = kept }
+  answers_proper : (a : Actor) (m : Store) (f : Frame) (b : Body) → asks b ≡ false → KeptIn S m.site → Proper S (answers x a m f b)
+  answers_proper a m f b tells kept = record { notes = tt; frames = (own _ refl tells, tt); memory = kept }
 
   again_proper : (a : Actor) (m : Store) (f : Frame) (b : Body) → KeptIn S m.site → Proper S (again_acknowledged x a m f b)
   again_proper a m f (body.Lock w) kept = stays m kept
-  again_proper a m f other kept = answers_proper a m f body.Ack kept
+  again_proper a m f other kept = answers_proper a m f body.Ack refl kept
 
   keeps_proper : (a : Actor) (m : Store) (f : Frame) (bytes : List ℕ) → KeptIn S m.site → Proper S (keeps_packet x a m f bytes)
   keeps_proper a m f bytes kept = record {
     notes = tt;
-    frames = (own _ refl, tt);
-    memory = kept_put S f.tag (answering x.actor (own_boot a) f (body.Packet bytes)) m.site (own _ refl) kept;
+    frames = (own _ refl refl, tt);
+    memory = kept_put S f.tag (answering x.actor (own_boot a) f (body.Packet bytes)) m.site (own _ refl refl) kept;
   }
 
   serves_call_proper : (a : Actor) (m : Store) (f : Frame) (asked : Asked) (c : Call) → KeptIn S m.site → Proper S (serves_call x a m f asked c)
-  serves_call_proper a m f asked (call.Read file offset count) kept = answers_proper a m f _ kept
+  serves_call_proper a m f asked (call.Read file offset count) kept = answers_proper a m f _ refl kept
   serves_call_proper a m f asked (call.Write file offset count stability bytes) kept = keeps_proper a _ f _ kept
   serves_call_proper a m f asked other kept = stays m kept
 
@@ -47,18 +48,18 @@ module _ (S : Frame → Type 0) (x : Scene) (own : (f : Frame) → f.from ≡ x.
   serves_proper a m f (Some asked) kept = serves_call_proper a m f asked (outer_call asked.call) kept
 
   locks_proper : (a : Actor) (m : Store) (f : Frame) (w : Work) → KeptIn S m.site → Proper S (locks x a m f w)
-  locks_proper a m f w kept = either (is_locked_for f.op (locked_in a.records)) (answers_proper a m f body.Grant kept) locked
+  locks_proper a m f w kept = either (is_locked_for f.op (locked_in a.records)) (answers_proper a m f body.Grant refl kept) locked
     where
       locked : Proper S (record { append = Some (OfData (store.Lock f.op f.fence (with_kept m.buffered w))); memory = OfStore m; frames = answering x.actor (own_boot a) f body.Grant ∷ []; notes = []; todo = [] })
-      locked = record { notes = tt; frames = (own _ refl, tt); memory = kept }
+      locked = record { notes = tt; frames = (own _ refl refl, tt); memory = kept }
 
   finishes_proper : (a : Actor) (m : Store) (f : Frame) (applied : Bool) → KeptIn S m.site → Proper S (finishes x a m f applied)
-  finishes_proper a m f applied kept = record { notes = tt; frames = (own _ refl, tt); memory = kept }
+  finishes_proper a m f applied kept = record { notes = tt; frames = (own _ refl refl, tt); memory = kept }
 
   done_proper : (a : Actor) (m : Store) (f : Frame) (b : Body) → KeptIn S m.site → Proper S (done_for x a m f b)
   done_proper a m f (body.Forward chosen bytes) kept =
-      either (relies_wrongly a f) (answers_proper a m f body.Refuse kept) (serves_proper a m f (asked_in (datagram bytes)) kept)
-  done_proper a m f (body.Lock w) kept = either (relies_wrongly a f) (answers_proper a m f body.Refuse kept) (locks_proper a m f w kept)
+      either (relies_wrongly a f) (answers_proper a m f body.Refuse refl kept) (serves_proper a m f (asked_in (datagram bytes)) kept)
+  done_proper a m f (body.Lock w) kept = either (relies_wrongly a f) (answers_proper a m f body.Refuse refl kept) (locks_proper a m f w kept)
   done_proper a m f body.Apply kept = finishes_proper a m f true kept
   done_proper a m f body.Release kept = finishes_proper a m f false kept
   done_proper a m f other kept = stays m kept

@@ -6,6 +6,8 @@ use Rattle.sl_machine.specs.Runs.{Run}
 use Rattle.sl_transport.specs.Flying.{FliesAlike, FlyWhenNamed, AreNumbered}
 use Rattle.sl_transport.specs.Moments.{MomentsRise}
 use Rattle.sl_transport.specs.Acting.{AreUpAlike, SendRightly}
+use Rattle.sl_transport.specs.Answering.{AnswersAnswer}
+use Rattle.sl_transport.specs.Kinds.{OnlyTheProxyAsks}
 
 abbrev pub FramesFlyAlike : Type 0
 FramesFlyAlike = (setup : Setup) (h : History) (w : World) → Run setup h w → FliesAlike h w
@@ -24,3 +26,9 @@ ActorsAreUpAlike = (setup : Setup) (h : History) (w : World) → Run setup h w �
 
 abbrev pub FramesAreSentByActors : Type 0
 FramesAreSentByActors = (setup : Setup) (h : History) (w : World) → Run setup h w → SendRightly h
+
+abbrev pub AnswersAnswerRequests : Type 0
+AnswersAnswerRequests = (setup : Setup) (h : History) (w : World) → Run setup h w → AnswersAnswer h
+
+abbrev pub TheProxyAloneAsks : Type 0
+TheProxyAloneAsks = (setup : Setup) (h : History) (w : World) → Run setup h w → OnlyTheProxyAsks h

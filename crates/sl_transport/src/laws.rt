@@ -1,5 +1,5 @@
 //! Laws over every run of the machine. Each function says one law and does nothing.
-ghost use Rattle.sl_transport.specs.Laws.{ActorsAreUpAlike, AllMomentsRise, FramesAreGivenInFlight, FramesAreNumbered, FramesAreSentByActors, FramesFlyAlike};
+ghost use Rattle.sl_transport.specs.Laws.{ActorsAreUpAlike, AllMomentsRise, FramesAreGivenInFlight, FramesAreNumbered, FramesAreSentByActors, FramesFlyAlike, AnswersAnswerRequests, TheProxyAloneAsks};
 
 /// What the world has in flight, and its numbers, are those of its history.
 pub fn frames_fly_alike()
@@ -29,4 +29,16 @@ pub fn moments_rise()
 /// A frame is sent by an actor whose event it is, while it is up.
 pub fn frames_are_sent_by_actors()
     ensures { FramesAreSentByActors }
+{}
+
+/// An answer is to a frame that was given to its sender, whatever the disks had before the volume was opened; but for the
+/// replies and fileids of directory servers and the decisions of the coordinator, which their records keep.
+pub fn answers_answer_requests()
+    ensures { AnswersAnswerRequests }
+{}
+
+/// The proxy alone asks, and it sends nothing else: each Hello, forwarded call, request for cells, names and fileids, and
+/// intent is from it, and of no operation.
+pub fn the_proxy_alone_asks()
+    ensures { TheProxyAloneAsks }
 {}

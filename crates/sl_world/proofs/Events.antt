@@ -10,7 +10,8 @@ use Rattle.sl_machine.specs.Records.{Record}
 use Rattle.sl_machine.specs.Memory.{Memory, Actor, OfProxy, OfCoord, OfSite}
 use Rattle.sl_machine.specs.World as machine
 use Rattle.sl_machine.specs.World.{Task, Given, Arrives, Scene, scene, nothing, numbered, launched}
-use Rattle.sl_machine.specs.Runs.{Steps, Whole, is_up, has_memory, TurnRun, Run, is_first}
+use Rattle.sl_machine.specs.Runs.{Steps, Whole, is_up, has_memory, TurnRun, is_first}
+use Rattle.sl_getattr.specs.Built.{NewRun}
 use Rattle.sl_world.specs.declared.flight.Flying.{Flying}
 use Rattle.sl_world.specs.declared.world.World.{World}
 use Rattle.sl_world.specs.declared.proxy.Proxy.{Proxy}
@@ -190,8 +191,8 @@ given v w k i f frames notes m Keeps s is to up d =
 
 -- ---- the world's history goes on
 
-not_first : (v : World) (w : machine.World) (h : History) → Run v.proxy.setup h w → Stands v w → is_first h ≡ false
-not_first v w [] run s = absurd (subst (λ m. T (not (has_memory m))) (sym ((run.actors 0 s.proxy.actor s.proxy.is).0) ∙ s.proxy.memory) tt)
+not_first : (v : World) (w : machine.World) (h : History) → NewRun v.proxy.setup h w → Stands v w → is_first h ≡ false
+not_first v w [] run s = absurd (subst (λ m. T (not (has_memory m))) (sym ((run.initial.actors 0 s.proxy.actor s.proxy.is).0) ∙ s.proxy.memory) tt)
 not_first v w (t ∷ past) run s = refl
 
 pub goes_on : (v v' : World) (e : Event) (rs : List Remark) → GoesOn v v' e rs → (h : History) → Follows v h → Follows v' (turn v e rs ∷ h)
@@ -199,7 +200,7 @@ goes_on v v' e rs on h follows =
     let next = on.leads follows.world follows.stands in
     record {
       world = next.world;
-      run = subst (λ s. Run s (turn v e rs ∷ h) next.world) (sym on.setup) (follows.world, follows.run, sym (not_first v follows.world h follows.run follows.stands), next.is);
+      run = subst (λ s. NewRun s (turn v e rs ∷ h) next.world) (sym on.setup) (follows.world, follows.run, sym (not_first v follows.world h follows.run follows.stands), next.is);
       stands = next.stands;
     }
 

@@ -1,12 +1,13 @@
 -- The world that has opened follows the history of its opening.
-use Rattle.std.proofs.Common.{◌≡◌, ℕ, zero, suc, ◌+◌, ◌<◌, ◌≤◌, true, false, [], ◌∷◌, Some, refl, sym, ap, subst, ◌∙◌, option_map, arith}
+use Rattle.std.proofs.Common.{◌≡◌, ℕ, zero, suc, ◌+◌, ◌<◌, ◌≤◌, true, false, List, [], ◌∷◌, Some, refl, sym, ap, subst, ◌∙◌, option_map, arith}
 use Rattle.std.specs.Ordering.{nat_cmp, eq_by_cmp}
 use Rattle.std.specs.Cmp.{nat_cmp_total}
 use Rattle.std.proofs.lemmas.Map.Lookups.{exact_unsigned}
 use Rattle.std.specs.FinMap.{empty, get, insert, get-empty, same_map}
 use Rattle.sl_defs.specs.declared.setup.Setup.{Setup}
 use Rattle.sl_frames.specs.Actors.{is_data}
-use Rattle.sl_history.specs.Turns.{Sent}
+use Rattle.sl_frames.specs.declared.frame.Frame.{Frame}
+use Rattle.sl_history.specs.Turns.{Remark, Sent}
 use Rattle.sl_machine.specs.Parts.{numbers}
 use Rattle.sl_machine.specs.Memory.{Memory, Actor}
 use Rattle.sl_machine.specs.Memory as memory
@@ -17,10 +18,12 @@ use Rattle.sl_machine.specs.Runs.{StartsEach, TurnRun}
 use Rattle.sl_world.specs.Coordinating.{NoOperation}
 use Rattle.sl_world.specs.Serving.{HasRoot}
 use Rattle.sl_world.specs.Proxying.{mapped, waiting_of, proxy_of}
-use Rattle.sl_world.specs.Worlds.{IsUp, Any, IsSmall, Stands, Follows, flying_of, opening, opened, first_fence}
+use Rattle.sl_world.specs.declared.world.World.{World}
+use Rattle.sl_world.specs.Handling.{silent}
+use Rattle.sl_world.specs.Worlds.{IsUp, Any, IsSmall, Stands, Follows, flying_of, opening, opened, first_fence, sending}
 use Rattle.sl_world.proofs.Mapping.{get_so, insert_so}
 use Rattle.sl_world.proofs.Opening.{blank, IsOpened, opens, proxy_step, coordinator_step, directory_step, no_site, new_coordinator}
-use Rattle.sl_world.proofs.Opened.{two, actors, first_world, has, initial, all_actors, found_left, found_right, found_behind, found_actor, AreOthers, AreDown, AreOpened, stores_open, front_0, front_1, front_16}
+use Rattle.sl_world.proofs.Opened.{two, actors, first_world, has, initial, all_actors, found_left, found_right, found_behind, found_actor, AreOthers, AreDown, AreOpened, stores_open, front_0, front_1, front_16, blank_at_first}
 
 -- ---- the data servers are down
 
@@ -190,4 +193,12 @@ module _ (s : Setup) (small : IsSmall s) where
       more w n = omega arith
 
   pub opened_follows : Follows (opened s) (opening s (Sent 1 (hello first_fence) ∷ []) ∷ [])
-  opened_follows = record { world = stores_opened.world; run = (first_world s, initial s small, refl, opens_all); stands = stands_opened }
+  opened_follows = record { world = stores_opened.world; run = (first_world s, blank_at_first s small, refl, opens_all); stands = stands_opened }
+
+-- what was opened so follows its opening
+pub opened_so : (s : Setup) (before now : World) (first : Frame) (r : Remark) (rs : List Remark) → s.dirs ≡ 1 → s.small ≤ 4 → s.nodes ≤ 8 → first ≡ hello first_fence
+    → before ≡ silent s → now ≡ sending (first ∷ []) before → r ≡ Sent before.next_frame first → rs ≡ r ∷ [] → Follows now (opening s rs ∷ [])
+opened_so s before now first r rs one small nodes says came sends tells notes =
+    subst (λ w. Follows w (opening s rs ∷ [])) (sym (sends ∙ ap (λ f. sending (f ∷ []) before) says ∙ ap (sending (hello first_fence ∷ [])) came))
+    (subst (λ ns. Follows (opened s) (opening s ns ∷ [])) (sym (notes ∙ ap (λ n. n ∷ []) (tells ∙ ap (λ f. Sent before.next_frame f) says ∙ ap (λ w. Sent w.next_frame (hello first_fence)) came)))
+    (opened_follows s (record { one = one; small = small; nodes = nodes })))

@@ -18,4 +18,8 @@ pub mod Opening
 pub mod Opened
 pub mod Following
 pub mod Handing
+pub mod Sending
+pub mod Performing
+pub mod Editing
+pub mod Arriving
 mod Outside

@@ -80,6 +80,19 @@ take_put {X = X} m k x = same_map nat_cmp_total exact_unsigned _ _ (λ q.
     at true o = refl
     at false o = refl
 
+same_key : (q k : ℕ) → eq_by_cmp nat_cmp q k ≡ true → q ≡ k
+same_key q k e = grind arith
+
+-- what isn't there can't be taken
+pub take_none : {X : Type 0} (m : FinMap nat_cmp X) (k : ℕ) → get m k ≡ None → remove m k ≡ m
+take_none m k none = same_map nat_cmp_total exact_unsigned _ _ (λ q. get-remove nat_cmp_total m k q ∙ at q)
+  where
+    at : (q : ℕ) → cond (eq_by_cmp nat_cmp q k) None (get m q) ≡ get m q
+    at q = elim (eq_by_cmp nat_cmp q k) as (λ b. eq_by_cmp nat_cmp q k ≡ b → cond b None (get m q) ≡ get m q) [
+      | true ↦ λ t. sym (ap (get m) (same_key q k t) ∙ none)
+      | false ↦ λ t. refl
+    ] refl
+
 pub has_put : {X : Type 0} (m : FinMap nat_cmp X) (k : ℕ) (x : X) → get (insert m k x) k ≡ Some x
 has_put m k x = grind (arith, gets)
 

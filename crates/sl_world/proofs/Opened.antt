@@ -13,6 +13,7 @@ use Rattle.sl_machine.specs.Memory as memory
 use Rattle.sl_machine.specs.World.{Told, nothing}
 use Rattle.sl_machine.specs.World as machine
 use Rattle.sl_machine.specs.Runs.{IsInitial, Starts, StartsEach, actors_of}
+use Rattle.sl_getattr.specs.Built.{IsBlank}
 use Rattle.sl_world.specs.Worlds.{IsPlayed, Any, IsSmall}
 use Rattle.sl_world.proofs.Opening.{blank, opens, store_step, no_store}
 
@@ -253,6 +254,13 @@ initial s small = record {
   event = refl;
   moment = refl;
   done_in = refl;
+}
+
+-- nothing was recorded
+pub blank_at_first : (s : Setup) → IsSmall s → IsBlank s (first_world s)
+blank_at_first s small = record {
+  initial = initial s small;
+  records = λ i a is. ap (λ x. x.records) (one_value blank a i (actors s) (sym (get-from_sorted nat_cmp (each (at blank) (actors s)) i (sorted_so blank s small)) ∙ is));
 }
 
 pub front_0 : {X : Type 0} (x : X) (s : Setup) → find nat_cmp 0 (each (at x) (actors s)) ≡ Some x

@@ -1,17 +1,19 @@
 -- A tree map's entries by numbers, and the finite map that they make.
-use Rattle.std.proofs.Common.{◌≡◌, ℕ, ◌==◌, ◌&&◌, List, [], ◌∷◌, Option, Some, None, Bool, true, false, cond, refl, sym, ap, ◌∙◌, arith}
+use Rattle.std.proofs.Common.{◌≡◌, ℕ, ◌==◌, ◌&&◌, List, [], ◌∷◌, Option, Some, None, Bool, true, false, cond, is_some, ◌≤◌, ◌<◌, true≢false, refl, sym, ap, ◌∙◌, arith}
 use Rattle.std.specs.Prelude.{min, length}
 use Rattle.std.specs.List.{AllByRecursion}
 use Rattle.std.specs.List.Sorted.{IsStrictlySortedBy}
 use Rattle.std.specs.Map.{keys_of, lookup, remove_entry}
 use Rattle.std.specs.BTreeMap.{is_at, insert_entry}
 use Rattle.std.specs.declared.cmp.Ordering.TheVariants.{Less, Equal, Greater}
-use Rattle.std.specs.Ordering.{nat_cmp, eq_by_cmp, match_ordering}
+use Rattle.std.specs.Ordering.{nat_cmp, eq_by_cmp, is_gt, match_ordering}
 use Rattle.std.proofs.lemmas.Map.Lookups.{exact_unsigned}
 use Rattle.std.specs.Cmp.{nat_cmp_total}
 use Rattle.std.specs.FinMap.{FinMap, get, insert, remove, empty, entries, from_entries, len, get-from_entries, get-insert, get-remove, entries-insert, len-entries, len-empty, same_map}
 use Rattle.std.specs.FinMap.Entries.{find, put, find-put, by_order}
+use Rattle.sl_world.specs.declared.flight.Flying.{Flying}
 use Rattle.sl_world.specs.declared.look.Look.{Look}
+use Rattle.sl_world.specs.Flights.{IsOldest}
 use Rattle.sl_world.specs.Proxying.{IsOut, low_in}
 
 -- the entries as a map
@@ -159,3 +161,19 @@ out_of server tag es h = by (first_out server tag es) (first_is server tag es h)
       to = (both f.look.to f.look.tag server tag f.is).0;
       is = (both f.look.to f.look.tag server tag f.is).1;
     }
+
+-- ---- the first key
+
+not_above : (k j : ℕ) → is_gt (nat_cmp k j) ≡ false → k ≤ j
+not_above k j h = grind arith
+
+pub first_key : (es : List (ℕ × Flying)) (k : ℕ) (f : Flying) → lookup (is_at (nat_cmp k)) es ≡ Some f
+    → ((j : ℕ) → is_some (lookup (is_at (nat_cmp j)) es) ≡ true → is_gt (nat_cmp k j) ≡ false) → IsOldest (map_of es) (Some k)
+first_key es k f at least = (
+  ap is_some (get_at es k ∙ at),
+  λ j has. not_above k j (least j (sym (ap is_some (get_at es j)) ∙ has)),
+)
+
+pub no_key : (es : List (ℕ × Flying)) → (0 < length es → false ≡ true) → IsOldest (map_of es) None
+no_key [] h = λ j. ap is_some (get_at {X = Flying} [] j)
+no_key (e ∷ es) h = absurd (true≢false (sym (h (omega arith))))

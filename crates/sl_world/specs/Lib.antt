@@ -5,4 +5,7 @@ pub mod Serving
 pub mod Reading
 pub mod Proxying
 pub mod Worlds
+pub mod Flights
+pub mod Handling
 pub mod Laws
+pub mod Admitting

@@ -17,7 +17,8 @@ use Rattle.sl_machine.specs.Memory.{Memory, Actor, OfProxy, OfCoord, OfSite}
 use Rattle.sl_machine.specs.World as machine
 use Rattle.sl_machine.specs.World.{Task, Given, nothing, launched, numbered}
 use Rattle.sl_machine.specs.Proxies.{hello}
-use Rattle.sl_machine.specs.Runs.{Run, TurnRun, Steps, is_up}
+use Rattle.sl_machine.specs.Runs.{TurnRun, Steps, is_up}
+use Rattle.sl_getattr.specs.Built.{NewRun}
 use Rattle.sl_world.specs.declared.flight.Flying.{Flying}
 use Rattle.sl_world.specs.declared.world.World.{World}
 use Rattle.sl_world.specs.declared.world.WorldFault.{WorldFault}
@@ -55,10 +56,10 @@ pub record Stands (v : World) (w : machine.World) : Type 0 where
   pub event : w.event ≡ v.event
   pub moment : w.moment ≡ v.moment
 
--- The history has a run of this volume that ends in a world which this one stands for.
+-- The history has a run of this volume from empty disks that ends in a world which this one stands for.
 pub record Follows (v : World) (h : History) : Type 0 where
   pub world : machine.World
-  pub run : Run v.proxy.setup h world
+  pub run : NewRun v.proxy.setup h world
   pub stands : Stands v world
 
 abbrev pub turn : World → Event → List Remark → Turn

@@ -1,6 +1,7 @@
 //! Frames in flight.
 ghost use Rattle.std.specs.Prelude.{◌≡◌, OnOk};
 ghost use Rattle.std.specs.FinMap as map;
+ghost use Rattle.sl_world.specs.Flights.{IsOldest};
 
 use sl_frames::Frame;
 use sl_types::NoMemory;
@@ -60,6 +61,23 @@ impl Flight {
             return Err(NoMemory);
         };
         Ok(())
+    }
+
+    /// Whether the frame of this number is in flight.
+    pub fn has(&self, number: u64) -> bool
+        ensures { result ≡ map.contains_key self.now number }
+    {
+        self.frames.contains_key(&number)
+    }
+
+    /// The least number of a frame in flight.
+    pub fn oldest(&self) -> Option<u64>
+        ensures { IsOldest self.now result }
+    {
+        match self.frames.first_key_value() {
+            Some((number, _)) => Some(*number),
+            None => None,
+        }
     }
 
     /// The frame of this number, which is in flight no longer.

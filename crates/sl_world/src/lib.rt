@@ -7,12 +7,15 @@ mod actors;
 mod coordinator;
 mod directory;
 mod flight;
+mod forwarding;
 mod laws;
 mod look;
 mod looks;
 mod proxy;
+mod replying;
 mod site;
 mod step;
+mod targets;
 mod world;
 
 pub use coordinator::Coordinator;
@@ -34,4 +37,8 @@ pub use world::{World, WorldFault};
 #[cfg(test)]
 mod directory_tests;
 #[cfg(test)]
+mod proxy_tests;
+#[cfg(test)]
 mod tests;
+#[cfg(test)]
+mod world_tests;

@@ -1,5 +1,5 @@
 //! What an actor's step sends and notes.
-ghost use Rattle.std.specs.Prelude.{◌≡◌, [], ◌∷◌, map, IfOk};
+ghost use Rattle.std.specs.Prelude.{◌≡◌, ◌≤◌, [], ◌∷◌, ◌++◌, length, map, IfOk, OnOk};
 ghost use Rattle.sl_past.specs.Words.{remark_of};
 
 use sl_frames::Frame;
@@ -8,19 +8,21 @@ use sl_types::NoMemory;
 use std::alloc::Global;
 use std::marker::Model;
 
-/// Frames in the order in which they are sent, which contracts see as that list.
+/// Frames in the order in which they are sent, which contracts see as that list. So far there is one at most.
 #[derive(Drop, Debug)]
 pub struct Frames {
     items: Vec<Frame>,
 }
 
 impl Model for Frames {
-    ghost use Rattle.std.specs.Prelude.{List};
+    ghost use Rattle.std.specs.Prelude.{List, ◌≤◌, length};
     ghost use Rattle.sl_frames.specs.declared.frame.Frame.{Frame};
 
     ghost Value = { List Frame };
 
     ghost view = { λ f. f.items.items };
+
+    ghost invariant = { λ f. length f.items.items ≤ 1 };
 }
 
 impl Frames {
@@ -49,6 +51,15 @@ impl Frames {
         ensures { result.now ≡ self.now }
     {
         self.items.as_slice()
+    }
+
+    /// The frames, in order, which are not copied. No step sends more than one, so far.
+    pub fn into_vec(self) -> Vec<Frame>
+        ensures frames { result.items ≡ self }
+        ensures few { length result.items ≤ 1 }
+    {
+        let Frames { items } = self;
+        items
     }
 }
 
@@ -85,6 +96,27 @@ impl Notes {
         let mut items = Vec::new(alloc);
         match items.push(note) {
             Ok(()) => Ok(Notes { items }),
+            Err(_) => Err(NoMemory),
+        }
+    }
+
+    /// Puts one more behind the others.
+    pub fn push(&mut self, note: Remark) -> Result<(), NoMemory>
+        ensures { OnOk result (self.new ≡ self.old ++ remark_of note ∷ []) }
+    {
+        match self.items.push(note) {
+            Ok(()) => Ok(()),
+            Err(_) => Err(NoMemory),
+        }
+    }
+
+    /// Puts these behind the others.
+    pub fn append(&mut self, notes: Notes) -> Result<(), NoMemory>
+        ensures { OnOk result (self.new ≡ self.old ++ notes) }
+    {
+        let Notes { mut items } = notes;
+        match self.items.append(&mut items) {
+            Ok(()) => Ok(()),
             Err(_) => Err(NoMemory),
         }
     }

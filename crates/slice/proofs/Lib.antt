@@ -1,5 +1,11 @@
 pub mod Texts
-pub mod Arrivals
+pub mod Noting
+pub mod Plain
+pub mod Flights
+pub mod Oldest
+pub mod Histories
 pub mod LineLaws
 pub mod Steps
-pub mod Turns
+pub mod Events
+pub mod Flows
+pub mod Going

@@ -1,3 +1,4 @@
 pub mod Outside
+pub mod Printing
 pub mod Schedule
 pub mod Replays

@@ -1,63 +1,91 @@
 -- What a run does, by its status.
-use Rattle.std.specs.Prelude.{◌≡◌, ℕ, ◌+◌, ◌<◌, ◌≤◌, ◌⊎◌, List, [], ◌∷◌, ◌++◌, length, codes, Option, Some, None, Result, MatchResult, All, Bool, true, false, string_bytes, String}
+use Rattle.std.specs.Prelude.{◌≡◌, ℕ, ◌+◌, ◌<◌, ◌≤◌, ◌⊎◌, List, [], ◌∷◌, ◌++◌, length, codes, Option, Some, Result, MatchResult, All, string_bytes, String}
 use Rattle.std.specs.Global.{Global}
 use Rattle.std.specs.Io.KnownBytes.{Appends, Keeps, Consumes, IsAtEnd}
-use Rattle.sl_defs.specs.Schedules.{line_text, IsLine}
-use Rattle.sl_defs.specs.Histories.{Turn, History, Happening, Opens, Reaches, Happens, line_of, event_count, next_event, IsTurn, IsArrival, Legal, lines_of, ended, notes_text, turn_text, history_text}
-use Rattle.sl_defs.specs.declared.note.Printed.{Printed}
+use Rattle.sl_defs.specs.Histories.{ended, history_text}
 use Rattle.sl_defs.specs.declared.setup.Setup.{Setup}
+use Rattle.sl_defs.specs.declared.event.Line.{Line}
+use Rattle.sl_defs.specs.declared.event.Line.TheVariants as line
+use Rattle.sl_history.specs.Turns.{Remark, History, transcript_of}
+use Rattle.sl_past.specs.Transcripts.{volume_of, remarks_text}
+use Rattle.sl_world.specs.declared.world.World.{World}
+use Rattle.sl_world.specs.declared.world.WorldFault.{WorldFault}
+use Rattle.sl_world.specs.declared.world.WorldFault.TheVariants as fault
+use Rattle.sl_world.specs.Worlds.{Follows}
+use Rattle.sl_arrivals.specs.Arrivals.{AnswersAtOnce}
 use Rattle.slice.specs.Outside.{TookFront, Rose}
-use Rattle.slice.specs.Schedule.{lines, lines_left, kept_lines, is_remark, IsBad, IsUnbuilt, NeedsAServer}
+use Rattle.slice.specs.Printing.{HaveTexts}
+use Rattle.slice.specs.Schedule.{lines, Makes, Pauses, Breaks, Spells, GiveOldest, IsBad, IsUnbuilt, IsUnknown, IsSpentAfter}
 use Rattle.slice.specs.declared.status.Stop.{Stop}
 use Rattle.slice.specs.declared.status.Stop.TheVariants as stop
-use Rattle.slice.specs.declared.status.Passed.{Passed}
-use Rattle.slice.specs.declared.status.Passed.TheVariants as passed
 use Rattle.slice.specs.declared.status.ReadEnd.{ReadEnd}
 use Rattle.slice.specs.declared.status.ReadEnd.TheVariants as read
 use Rattle.slice.specs.declared.status.Status.{Status}
-use Rattle.slice.specs.declared.status.Status.TheVariants.{Done, ReadFault, WriteFault, BadLine, NoMemory, BadWords, TooLong, Unbuilt}
+use Rattle.slice.specs.declared.status.Status.TheVariants.{Done, ReadFault, WriteFault, BadLine, NoMemory, BadWords, TooLong, Unbuilt, Spent}
 
 -- ---- lines performed, and those left
 
--- the volume on which a happening opens the world
-abbrev pub opened_on : Happening → Option Setup
-opened_on (Opens setup) = Some setup
-opened_on (Reaches moment) = None
-opened_on (Happens e) = None
+-- a line of the source that was performed, and the turns that it made, the newest first
+pub record Passage : Type 0 where
+  pub text : List ℕ
+  pub turns : History
 
-abbrev pub or_else : Option Setup → Option Setup → Option Setup
-or_else None other = other
-or_else (Some setup) other = Some setup
+-- the history of lines that were performed, of which the newest comes first
+abbrev pub history_of : List Passage → History
+history_of [] = []
+history_of (p ∷ ps) = p.turns ++ history_of ps
 
--- the volume of a history, where the world was opened in it
-abbrev pub volume_of : History → Option Setup
-volume_of [] = None
-volume_of (t ∷ past) = or_else (volume_of past) (opened_on t.happening)
+-- the lines themselves, the oldest first
+abbrev pub texts_of : List Passage → List (List ℕ)
+texts_of [] = []
+texts_of (p ∷ ps) = texts_of ps ++ p.text ∷ []
 
--- each line may stand in its place: the first is the volume, and the others are of that volume's schedules
-abbrev pub AreInPlace : History → Type 0
-AreInPlace [] = Unit {0}
-AreInPlace (t ∷ past) = AreInPlace past × IsLine (volume_of past) (line_of t.happening)
+-- each is a line that may stand in its place, and made its turns
+abbrev pub ArePassages : List Passage → Type 0
+ArePassages [] = Unit {0}
+ArePassages (p ∷ ps) = ArePassages ps × Spells (history_of ps) p.text (λ l. Makes l (history_of ps) p.turns)
 
--- The first lines of the source are those of the history, and remarks, which are passed over; these are left.
-pub record Leaves (source : List ℕ) (h : History) (left : List (List ℕ)) : Type 0 where
-  pub performed : List (List ℕ)
-  pub lines_are : lines source ≡ performed ++ left
-  pub printed : kept_lines performed ≡ lines_of h
+-- why a line that made these turns was not performed to its end
+abbrev pub WhyOf : Stop → Line → History → History → Type 0
+WhyOf stop.WriteFault l past turns = Breaks l past turns
+WhyOf stop.Bad l past turns = (turns ≡ []) × IsUnknown past l
+WhyOf stop.Unbuilt l past turns = Pauses l past turns × IsUnbuilt l past turns
+WhyOf stop.Spent l past turns = Pauses l past turns × IsSpentAfter (turns ++ past)
+WhyOf stop.NoMemory l past turns = Pauses l past turns
 
--- Line k is the first that isn't performed.
-pub record StopsAt (source : List ℕ) (h : History) (line : List ℕ) (k : ℕ) : Type 0 where
+-- The same of a text. A bad one spells no line, and without memory it may not have been read.
+abbrev pub Why : Stop → History → List ℕ → History → Type 0
+Why stop.Bad past text turns = (turns ≡ []) × IsBad past text
+Why stop.NoMemory past text turns = (turns ≡ []) ⊎ Spells past text (λ l. WhyOf stop.NoMemory l past turns)
+Why why past text turns = Spells past text (λ l. WhyOf why l past turns)
+
+-- Line k is the first that isn't performed to its end. The history is that of the lines before it, and the turns that it made.
+pub record StopsAt (why : Stop) (source : List ℕ) (h : History) (k : ℕ) : Type 0 where
+  pub passed : List Passage
+  pub passages : ArePassages passed
+  pub text : List ℕ
   pub rest : List (List ℕ)
-  pub leaves : Leaves source h (line ∷ rest)
-  pub number : k ≡ length (leaves.performed) + 1
+  pub lines_are : lines source ≡ texts_of passed ++ text ∷ rest
+  pub number : k ≡ length passed + 1
+  pub turns : History
+  pub because : Why why (history_of passed) text turns
+  pub history_is : h ≡ turns ++ history_of passed
+
+-- All lines of the source were performed.
+pub record Finishes (source : List ℕ) (h : History) : Type 0 where
+  pub passed : List Passage
+  pub passages : ArePassages passed
+  pub lines_are : lines source ≡ texts_of passed
+  pub history_is : h ≡ history_of passed
 
 -- what a status says of the lines that were performed
 abbrev pub Ends : Status → List ℕ → History → Type 0
-Ends Done source h = Leaves source h []
-Ends (BadLine k) source h = (line : List ℕ) × StopsAt source h line k × IsBad (volume_of h) line
-Ends (Unbuilt k) source h = (line : List ℕ) × StopsAt source h line k × IsUnbuilt (volume_of h) line
-Ends WriteFault source h = (rest : List (List ℕ)) × Leaves source h rest
-Ends NoMemory source h = (rest : List (List ℕ)) × Leaves source h rest
+Ends Done source h = Finishes source h
+Ends (BadLine k) source h = StopsAt stop.Bad source h k
+Ends (Unbuilt k) source h = StopsAt stop.Unbuilt source h k
+Ends Spent source h = (k : ℕ) × StopsAt stop.Spent source h k
+Ends WriteFault source h = (k : ℕ) × StopsAt stop.WriteFault source h k
+Ends NoMemory source h = (k : ℕ) × StopsAt stop.NoMemory source h k
 Ends ReadFault source h = ⊥
 Ends BadWords source h = ⊥
 Ends TooLong source h = ⊥
@@ -67,14 +95,19 @@ abbrev pub Took : Status → Option (List ℕ) → Option (List ℕ) → List �
 Took WriteFault old new text = TookFront old new text
 Took _ old new text = Appends old new text
 
--- Lines of the source were performed, each in its place: there is a legal history of them, and the sink took its
--- printed text.
+-- nothing happened, or this is what happened in a run of the machine to a world
+abbrev pub IsHistory : History → Type 0
+IsHistory [] = Unit {0}
+IsHistory (t ∷ past) = (v : World) × Follows v (t ∷ past)
+
+-- Lines of the source were performed, each in its place: what happened is a history of the machine, in which each datagram
+-- that needs no server is answered at once, and the sink took its transcript.
 pub record Performs (outcome : Status) (source : List ℕ) (old new : Option (List ℕ)) : Type 0 where
   pub history : History
-  pub in_place : AreInPlace history
-  pub legal : Legal history
+  pub is : IsHistory history
+  pub answers : AnswersAtOnce history
   pub ends : Ends outcome source history
-  pub took : Took outcome old new (history_text history)
+  pub took : Took outcome old new (history_text (transcript_of history))
 
 -- ---- reading
 
@@ -140,6 +173,7 @@ IsRun Done left_old left_new held_old held_new = Replays Done left_old left_new 
 IsRun WriteFault left_old left_new held_old held_new = Replays WriteFault left_old left_new held_old held_new
 IsRun (BadLine k) left_old left_new held_old held_new = Replays (BadLine k) left_old left_new held_old held_new
 IsRun (Unbuilt k) left_old left_new held_old held_new = Replays (Unbuilt k) left_old left_new held_old held_new
+IsRun Spent left_old left_new held_old held_new = Replays Spent left_old left_new held_old held_new
 IsRun NoMemory left_old left_new held_old held_new = (Gave left_old left_new × Keeps held_old held_new) ⊎ Replays NoMemory left_old left_new held_old held_new
 IsRun ReadFault left_old left_new held_old held_new = Gave left_old left_new × Keeps held_old held_new
 IsRun TooLong left_old left_new held_old held_new = GaveMore left_old left_new × Keeps held_old held_new
@@ -147,113 +181,116 @@ IsRun BadWords left_old left_new held_old held_new = Keeps left_old left_new × 
 
 -- ---- one line after the other
 
--- the note of a datagram's arrival as event n, or why there is none
-abbrev pub NoteStops : Stop → List ℕ → Type 0
-NoteStops stop.WriteFault datagram = ⊥
-NoteStops stop.Bad datagram = ⊥
-NoteStops stop.Unbuilt datagram = NeedsAServer datagram
-NoteStops stop.NoMemory datagram = Unit {0}
+-- the text of these turns
+abbrev pub text_of : History → List ℕ
+text_of h = history_text (transcript_of h)
 
-abbrev pub NotesArrival : Result Printed Stop → ℕ → List ℕ → Type 0
-NotesArrival outcome n datagram = MatchResult outcome (λ note. IsArrival n datagram (note ∷ [])) (λ why. NoteStops why datagram)
+-- the world has this history, and its volume is known
+pub record Stood (v : World) (h : History) : Type 0 where
+  pub follows : Follows v h
+  pub volume : volume_of h ≡ Some v.proxy.setup
 
--- the line and its note
-abbrev pub noted : List ℕ → Printed → List ℕ
-noted text note = ended text ++ notes_text (note ∷ [])
+-- what the sink took of a text, at such a stop
+abbrev pub TookAt : Stop → Option (List ℕ) → Option (List ℕ) → List ℕ → Type 0
+TookAt stop.WriteFault old new text = TookFront old new text
+TookAt _ old new text = Appends old new text
 
-abbrev pub CallStops : Stop → ℕ → List ℕ → List ℕ → Option (List ℕ) → Option (List ℕ) → Type 0
-CallStops stop.WriteFault n text datagram old new = (note : Printed) × IsArrival n datagram (note ∷ []) × TookFront old new (noted text note)
-CallStops stop.Bad n text datagram old new = ⊥
-CallStops stop.Unbuilt n text datagram old new = NeedsAServer datagram × Keeps old new
-CallStops stop.NoMemory n text datagram old new = Keeps old new
+-- Behind this past the line was performed, in this world then.
+pub record Passes (l : Line) (past : History) (v : World) (old new : Option (List ℕ)) : Type 0 where
+  pub turns : History
+  pub makes : Makes l past turns
+  pub stood : Stood v (turns ++ past)
+  pub took : Appends old new (text_of turns)
 
--- a datagram's arrival as event n was performed, whose line is this text, or why not
-abbrev pub CallDone : Result Unit Stop → ℕ → List ℕ → List ℕ → Option (List ℕ) → Option (List ℕ) → Type 0
-CallDone outcome n text datagram old new =
-    MatchResult outcome (λ _. (note : Printed) × IsArrival n datagram (note ∷ []) × Appends old new (noted text note)) (λ why. CallStops why n text datagram old new)
+-- or it was not
+pub record Stops (why : Stop) (l : Line) (past : History) (old new : Option (List ℕ)) : Type 0 where
+  pub turns : History
+  pub because : WhyOf why l past turns
+  pub is : IsHistory (turns ++ past)
+  pub took : TookAt why old new (text_of turns)
 
--- the turn of event n that this line makes
-pub record IsTurnOf (setup : Setup) (n : ℕ) (text : List ℕ) (t : Turn) : Type 0 where
-  pub spelled : line_text (line_of t.happening) ≡ text
-  pub in_place : IsLine (Some setup) (line_of t.happening)
-  pub no_remark : is_remark text ≡ false
-  pub answered : IsTurn n t.happening t.notes
-  pub event : event_count t.happening ≡ 1
+abbrev pub LineDone : Result Unit Stop → Line → History → World → Option (List ℕ) → Option (List ℕ) → Type 0
+LineDone outcome l past v old new = MatchResult outcome (λ _. Passes l past v old new) (λ why. Stops why l past old new)
 
--- why a line behind the volume line wasn't performed
-abbrev pub Stops : Stop → Setup → ℕ → List ℕ → Option (List ℕ) → Option (List ℕ) → Type 0
-Stops stop.WriteFault setup n text old new = (t : Turn) × IsTurnOf setup n text t × TookFront old new (turn_text t)
-Stops stop.Bad setup n text old new = IsBad (Some setup) text × Keeps old new
-Stops stop.Unbuilt setup n text old new = IsUnbuilt (Some setup) text × Keeps old new
-Stops stop.NoMemory setup n text old new = Keeps old new
+abbrev pub OpeningDone : Result World Stop → Setup → Option (List ℕ) → Option (List ℕ) → Type 0
+OpeningDone outcome setup old new = MatchResult outcome (λ v. Passes (line.Volume setup) [] v old new) (λ why. Stops why (line.Volume setup) [] old new)
 
--- what became of such a line that was performed or passed over
-abbrev pub Passes : Passed → Setup → ℕ → List ℕ → Option (List ℕ) → Option (List ℕ) → Type 0
-Passes passed.Event setup n text old new = (t : Turn) × IsTurnOf setup n text t × Appends old new (turn_text t)
-Passes passed.Remark setup n text old new = (is_remark text ≡ true) × Keeps old new
+-- the same of a line's text
+pub record PassesText (text : List ℕ) (past : History) (v : World) (old new : Option (List ℕ)) : Type 0 where
+  pub turns : History
+  pub spells : Spells past text (λ l. Makes l past turns)
+  pub stood : Stood v (turns ++ past)
+  pub took : Appends old new (text_of turns)
 
--- how many events that was
-abbrev pub events_of : Passed → ℕ
-events_of passed.Event = 1
-events_of passed.Remark = 0
+pub record StopsText (why : Stop) (text : List ℕ) (past : History) (old new : Option (List ℕ)) : Type 0 where
+  pub turns : History
+  pub because : Why why past text turns
+  pub is : IsHistory (turns ++ past)
+  pub took : TookAt why old new (text_of turns)
 
-abbrev pub LineDone : Result Passed Stop → Setup → ℕ → List ℕ → Option (List ℕ) → Option (List ℕ) → Type 0
-LineDone outcome setup n text old new = MatchResult outcome (λ p. Passes p setup n text old new) (λ why. Stops why setup n text old new)
+abbrev pub TextDone : Result Unit Stop → List ℕ → History → World → Option (List ℕ) → Option (List ℕ) → Type 0
+TextDone outcome text past v old new = MatchResult outcome (λ _. PassesText text past v old new) (λ why. StopsText why text past old new)
 
--- the turn of the volume line
-pub record IsOpening (setup : Setup) (text : List ℕ) (t : Turn) : Type 0 where
-  pub spelled : line_text (line_of t.happening) ≡ text
-  pub in_place : IsLine None (line_of t.happening)
-  pub silent : t.notes ≡ []
-  pub volume : t.happening ≡ Opens setup
-
--- why the first line wasn't performed
-abbrev pub StopsFirst : Stop → List ℕ → Option (List ℕ) → Option (List ℕ) → Type 0
-StopsFirst stop.WriteFault text old new = (setup : Setup) × (t : Turn) × IsOpening setup text t × TookFront old new (turn_text t)
-StopsFirst stop.Bad text old new = IsBad None text × Keeps old new
-StopsFirst stop.Unbuilt text old new = ⊥
-StopsFirst stop.NoMemory text old new = Keeps old new
-
--- the volume line was performed, or why not
-abbrev pub FirstDone : Result Setup Stop → List ℕ → Option (List ℕ) → Option (List ℕ) → Type 0
-FirstDone outcome text old new = MatchResult outcome (λ setup. (t : Turn) × IsOpening setup text t × Appends old new (turn_text t)) (λ why. StopsFirst why text old new)
+-- the first line was performed, which opened the volume, or it was not
+abbrev pub FirstDone : Result World Stop → List ℕ → Option (List ℕ) → Option (List ℕ) → Type 0
+FirstDone outcome text old new = MatchResult outcome (λ v. PassesText text [] v old new) (λ why. StopsText why text [] old new)
 
 -- some bytes were written, or why not
 abbrev pub WriteStops : Stop → List ℕ → Option (List ℕ) → Option (List ℕ) → Type 0
 WriteStops stop.WriteFault bytes old new = TookFront old new bytes
-WriteStops stop.Bad bytes old new = ⊥
-WriteStops stop.Unbuilt bytes old new = ⊥
 WriteStops stop.NoMemory bytes old new = Keeps old new
+WriteStops _ bytes old new = ⊥
 
 abbrev pub Wrote : Result Unit Stop → List ℕ → Option (List ℕ) → Option (List ℕ) → Type 0
 Wrote outcome bytes old new = MatchResult outcome (λ _. Appends old new bytes) (λ why. WriteStops why bytes old new)
 
+-- A line and its notes were written. Where a note isn't printed, nothing was.
+abbrev pub TurnStops : Stop → List ℕ → List Remark → Option (List ℕ) → Option (List ℕ) → Type 0
+TurnStops stop.Unbuilt text remarks old new = (HaveTexts remarks → ⊥) × Keeps old new
+TurnStops why text remarks old new = WriteStops why (ended text ++ remarks_text remarks) old new
+
+abbrev pub WroteTurn : Result Unit Stop → List ℕ → List Remark → Option (List ℕ) → Option (List ℕ) → Type 0
+WroteTurn outcome text remarks old new = MatchResult outcome (λ _. Appends old new (ended text ++ remarks_text remarks)) (λ why. TurnStops why text remarks old new)
+
 -- a write fault comes only where the sink's count of faults rose
 abbrev pub StopBlames : Stop → ℕ → ℕ → Type 0
 StopBlames stop.WriteFault before now = Rose before now
-StopBlames stop.Bad before now = Unit {0}
-StopBlames stop.Unbuilt before now = Unit {0}
-StopBlames stop.NoMemory before now = Unit {0}
+StopBlames _ before now = Unit {0}
 
 pub record StopCounts {T : Type 0} (before now : ℕ) (outcome : Result T Stop) : Type 0 where
   pub later : before ≤ now
   pub failed : MatchResult outcome (λ _. Unit {0}) (λ why. StopBlames why before now)
+
+-- why a line isn't performed, where the world doesn't perform its event
+abbrev pub stop_by : WorldFault → Stop
+stop_by (fault.UnknownFrame k) = stop.Bad
+stop_by fault.NotBuilt = stop.Unbuilt
+stop_by fault.Spent = stop.Spent
+stop_by fault.NoMemory = stop.NoMemory
 
 -- the status of a run that stops at line k
 abbrev pub status_at : Stop → ℕ → Status
 status_at stop.WriteFault k = WriteFault
 status_at stop.Bad k = BadLine k
 status_at stop.Unbuilt k = Unbuilt k
+status_at stop.Spent k = Spent
 status_at stop.NoMemory k = NoMemory
 
--- The lines so far are performed, and these are left; line is the number of the next line, event that of the next event.
-pub record Sofar (source : List ℕ) (setup : Setup) (left : List (List ℕ)) (line event : ℕ) (old now : Option (List ℕ)) : Type 0 where
-  pub history : History
-  pub in_place : AreInPlace history
-  pub legal : Legal history
-  pub volume : volume_of history ≡ Some setup
-  pub next : next_event history ≡ event
-  pub leaves : Leaves source history left
-  pub begun : 1 ≤ length (leaves.performed)
-  pub number : line ≡ length (leaves.performed) + 1
-  pub took : Appends old now (history_text history)
+-- The lines so far are performed, and these are left; k is the number of the next one.
+pub record Sofar (source : List ℕ) (v : World) (left : List (List ℕ)) (k : ℕ) (old now : Option (List ℕ)) : Type 0 where
+  pub passed : List Passage
+  pub passages : ArePassages passed
+  pub lines_are : lines source ≡ texts_of passed ++ left
+  pub number : k ≡ length passed + 1
+  pub stood : Stood v (history_of passed)
+  pub took : Appends old now (text_of (history_of passed))
+
+-- ---- a flow
+
+-- So many frames were given, each the oldest one in flight.
+pub record Flowing (past : History) (n : ℕ) (v : World) (old now : Option (List ℕ)) : Type 0 where
+  pub turns : History
+  pub give : GiveOldest past turns
+  pub count : length turns ≡ n
+  pub stood : Stood v (turns ++ past)
+  pub took : Appends old now (text_of turns)

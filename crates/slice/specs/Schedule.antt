@@ -1,17 +1,20 @@
--- The lines of a schedule's text, and what may be wrong with one.
-use Rattle.std.specs.Prelude.{◌≡◌, ℕ, ◌-◌, ◌==◌, List, [], ◌∷◌, length, Option, Some, None, Bool, true, false, not, filter, if◌then◌else◌, slice_index, take}
+-- The lines of a schedule's text, the turns that a line makes, and what may be wrong with one.
+use Rattle.std.specs.Prelude.{◌≡◌, ℕ, ◌-◌, ◌<◌, ◌≤◌, ◌==◌, List, [], ◌∷◌, ◌++◌, length, Option, Some, None, Bool, true, false, if◌then◌else◌, slice_index, take}
 use Rattle.std.specs.List.{slice_split}
 use Rattle.std.specs.Borrow.{Bor}
-use Rattle.sl_defs.specs.Rpc.{CallHeader, BeginsWithHeader, HasNoHeader, immediate_reply}
 use Rattle.sl_defs.specs.Schedules.{line_text, FitsLine, IsLine}
-use Rattle.sl_defs.specs.Histories.{CallsForReply}
+use Rattle.sl_defs.specs.Histories.{Happening, Opens, Happens}
 use Rattle.sl_defs.specs.declared.setup.Setup.{Setup}
 use Rattle.sl_defs.specs.declared.event.Event.{Event}
 use Rattle.sl_defs.specs.declared.event.Event.TheVariants as event
 use Rattle.sl_defs.specs.declared.event.Line.{Line}
 use Rattle.sl_defs.specs.declared.event.Line.TheVariants as line
-use Rattle.slice.specs.declared.answer.Answer.{Answer}
-use Rattle.slice.specs.declared.answer.Answer.TheVariants.{Junk, Reply, NeedsServer}
+use Rattle.sl_history.specs.Turns.{Turn, History}
+use Rattle.sl_history.specs.Frames.{in_flight, named_number}
+use Rattle.sl_past.specs.Transcripts.{volume_of}
+use Rattle.sl_world.specs.declared.world.World.{World}
+use Rattle.slice.specs.Printing.{HaveTexts}
+use Rattle.sl_world.specs.Worlds.{Follows, IsBuiltEvent, IsSmall, IsSpent, KnowsFrame}
 
 -- ---- lines
 
@@ -31,54 +34,106 @@ abbrev pub lines_left : Option (Bor (List ℕ)) → List (List ℕ)
 lines_left None = []
 lines_left (Some rest) = slice_split is_end rest.now
 
--- a line that begins with `=` is passed over
-abbrev pub is_remark : List ℕ → Bool
-is_remark [] = false
-is_remark (b ∷ bs) = b == 61
+-- ---- the turns that a line makes, the newest first
 
-abbrev pub without_remarks : List (List ℕ) → List (List ℕ)
-without_remarks texts = filter (λ text. not (is_remark text)) texts
+-- the frame of this number is the oldest one in flight
+pub record IsOldestIn (h : History) (k : ℕ) : Type 0 where
+  pub flies : in_flight h k ≡ true
+  pub least : (j : ℕ) → in_flight h j ≡ true → k ≤ j
 
--- the lines that aren't passed over; the first never is
-abbrev pub kept_lines : List (List ℕ) → List (List ℕ)
-kept_lines [] = []
-kept_lines (first ∷ others) = first ∷ without_remarks others
+-- nothing is in flight
+abbrev pub IsStill : History → Type 0
+IsStill h = (k : ℕ) → in_flight h k ≡ false
+
+-- each of these turns gives the frame that was then the oldest one in flight
+abbrev pub GiveOldest : History → History → Type 0
+GiveOldest past [] = Unit {0}
+GiveOldest past (t ∷ turns) = GiveOldest past turns × (k : ℕ) × (t.happening ≡ Happens (event.Give k)) × IsOldestIn (turns ++ past) k
+
+-- The oldest frame in flight is given so many times, or until nothing is in flight.
+pub record Flows (most : ℕ) (past turns : History) : Type 0 where
+  pub give : GiveOldest past turns
+  pub few : length turns ≤ most
+  pub still : length turns < most → IsStill (turns ++ past)
+
+-- one turn, of this
+abbrev pub IsTurnOf : Happening → History → Type 0
+IsTurnOf happening turns = (t : Turn) × (turns ≡ t ∷ []) × (t.happening ≡ happening)
+
+-- After this past the line makes these turns.
+abbrev pub Makes : Line → History → History → Type 0
+Makes (line.Volume setup) past turns = IsTurnOf (Opens setup) turns
+Makes (line.At moment) past turns = ⊥
+Makes (line.Happens e) past turns = IsTurnOf (Happens e) turns
+Makes (line.Flow most) past turns = Flows most past turns
+Makes (line.Remark bytes) past turns = turns ≡ []
+
+-- it made these and has more to make
+abbrev pub Pauses : Line → History → History → Type 0
+Pauses (line.Flow most) past turns = GiveOldest past turns × (length turns < most)
+Pauses other past turns = turns ≡ []
+
+-- it made all, or a flow some
+abbrev pub Breaks : Line → History → History → Type 0
+Breaks (line.Flow most) past turns = GiveOldest past turns × (length turns ≤ most)
+Breaks other past turns = Makes other past turns
+
+-- The text spells a line that may stand behind this past, of which this holds.
+pub record Spells (past : History) (text : List ℕ) (P : Line → Type 0) : Type 0 where
+  pub spelled_line : Line
+  pub spelled : text ≡ line_text spelled_line
+  pub in_place : IsLine (volume_of past) spelled_line
+  pub holds : P spelled_line
 
 -- ---- a line that isn't performed
 
--- It spells no line that may stand in its place.
-abbrev pub IsBad : Option Setup → List ℕ → Type 0
-IsBad setup text = (l : Line) → FitsLine l → IsLine setup l → text ≡ line_text l → ⊥
+-- the event names a frame that isn't in flight
+abbrev pub NamesNone : History → Event → Type 0
+NamesNone past e = (k : ℕ) × (named_number (Happens e) ≡ Some k) × (in_flight past k ≡ false)
 
--- a call with a whole header that isn't answered at its arrival
-pub record NeedsAServer (datagram : List ℕ) : Type 0 where
-  pub header : CallHeader
-  pub args : ℕ
-  pub begins : BeginsWithHeader datagram header args
-  pub not_immediate : immediate_reply header ≡ None
+-- the line is such an event
+abbrev pub IsUnknown : History → Line → Type 0
+IsUnknown past (line.Happens e) = NamesNone past e
+IsUnknown past other = ⊥
 
--- an event other than the arrival of a datagram that is junk or is answered at once
-abbrev pub IsUnbuiltEvent : Event → Type 0
-IsUnbuiltEvent (event.Call client datagram) = NeedsAServer datagram
-IsUnbuiltEvent _ = Unit {0}
+-- It spells no line that may stand in its place, or an event that names a frame that isn't in flight.
+pub data IsBad (past : History) (text : List ℕ) : Type 0 where
+  SpellsNone : ((l : Line) → FitsLine l → IsLine (volume_of past) l → text ≡ line_text l → ⊥) → IsBad past text
+  SpellsUnknown : Spells past text (IsUnknown past) → IsBad past text
 
--- a line of the grammar that isn't built
-abbrev pub IsUnbuiltLine : Line → Type 0
-IsUnbuiltLine (line.Volume setup) = ⊥
-IsUnbuiltLine (line.Remark bytes) = ⊥
-IsUnbuiltLine (line.Happens e) = IsUnbuiltEvent e
-IsUnbuiltLine _ = Unit {0}
+-- The world of this history doesn't perform the event, since it isn't built; the frame that it names is in flight.
+pub record IsRefused (h : History) (e : Event) : Type 0 where
+  pub world : World
+  pub follows : Follows world h
+  pub knows : KnowsFrame world e
+  pub unbuilt : IsBuiltEvent world e → ⊥
 
--- It spells a line that may stand in its place, of a form that isn't built.
-pub record IsUnbuilt (setup : Option Setup) (text : List ℕ) : Type 0 where
-  pub spelled_line : Line
-  pub in_place : IsLine setup spelled_line
-  pub spelled : text ≡ line_text spelled_line
-  pub form : IsUnbuiltLine spelled_line
+-- This turn may follow, but a note of it isn't printed.
+pub record IsUnprinted (h : History) (t : Turn) : Type 0 where
+  pub world : World
+  pub follows : Follows world (t ∷ h)
+  pub unprinted : HaveTexts t.remarks → ⊥
 
--- ---- what a datagram calls for
+-- What this event asks for isn't built.
+pub data IsUnbuiltEvent (h : History) (e : Event) : Type 0 where
+  Refused : IsRefused h e → IsUnbuiltEvent h e
+  Unprinted : (t : Turn) → t.happening ≡ Happens e → IsUnprinted h t → IsUnbuiltEvent h e
 
-abbrev pub IsAnswerTo : List ℕ → Answer → Type 0
-IsAnswerTo datagram Junk = HasNoHeader datagram
-IsAnswerTo datagram (Reply bytes) = CallsForReply datagram bytes
-IsAnswerTo datagram NeedsServer = NeedsAServer datagram
+-- Nor what the opening of this volume does.
+pub data IsUnbuiltVolume (setup : Setup) : Type 0 where
+  NotSmall : (IsSmall setup → ⊥) → IsUnbuiltVolume setup
+  UnprintedOpening : (t : Turn) → t.happening ≡ Opens setup → IsUnprinted [] t → IsUnbuiltVolume setup
+
+-- What the line asks for next isn't built, when it has made these turns.
+abbrev pub IsUnbuilt : Line → History → History → Type 0
+IsUnbuilt (line.Volume setup) past turns = IsUnbuiltVolume setup
+IsUnbuilt (line.At moment) past turns = Unit {0}
+IsUnbuilt (line.Happens e) past turns = IsUnbuiltEvent past e
+IsUnbuilt (line.Flow most) past turns = (k : ℕ) × IsOldestIn (turns ++ past) k × IsUnbuiltEvent (turns ++ past) (event.Give k)
+IsUnbuilt (line.Remark bytes) past turns = ⊥
+
+-- a count of the world of this history stands at its last value
+pub record IsSpentAfter (h : History) : Type 0 where
+  pub world : World
+  pub follows : Follows world h
+  pub spent : IsSpent world

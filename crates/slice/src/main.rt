@@ -1,10 +1,10 @@
 //! `slice replay`: performs a schedule from standard input, and writes its transcript to standard output.
 #![tactic(auto)]
 
-mod answer;
 mod lines;
 mod memory;
 mod perform;
+mod printing;
 mod run;
 mod sink;
 mod source;
@@ -50,6 +50,10 @@ fn report(rt: &impl Eprint, outcome: Status) -> io::Result<u8> {
         Status::Unbuilt(k) => {
             eprintln!(rt; "slice: not built at line {k}")?;
             Ok(9)
+        }
+        Status::Spent => {
+            eprintln!(rt; "slice: count spent")?;
+            Ok(12)
         }
     }
 }

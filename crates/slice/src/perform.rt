@@ -1,18 +1,22 @@
 //! Performing the lines of a schedule.
-ghost use Rattle.std.specs.Prelude.{◌≡◌, ◌+◌, ◌<◌, ◌≤◌, ◌^◌, ◌∷◌, ◌++◌, [], IfOk, length};
-ghost use Rattle.sl_defs.specs.Histories.{ended, notes_text};
+ghost use Rattle.std.specs.Prelude.{◌≡◌, ◌≤◌, length, map};
+ghost use Rattle.sl_defs.specs.Schedules.{line_text};
+ghost use Rattle.sl_defs.specs.declared.event.Event.TheVariants as event;
+ghost use Rattle.sl_defs.specs.declared.event.Line.TheVariants as line;
+ghost use Rattle.sl_history.specs.Turns.{History};
+ghost use Rattle.sl_past.specs.Words.{remark_of};
 ghost use Rattle.slice.specs.declared.status.Status.{Status};
 ghost use Rattle.slice.specs.Outside.{Rose};
-ghost use Rattle.slice.specs.Replays.{CallDone, FirstDone, LineDone, NotesArrival, Performs, StopCounts, Wrote, events_of, status_at};
+ghost use Rattle.slice.specs.Replays.{FirstDone, LineDone, OpeningDone, Performs, Stood, StopCounts, TextDone, Wrote, WroteTurn, status_at, stop_by};
 
-use crate::answer::{Answer, answer_to};
 use crate::lines::{cut_line, without_end};
+use crate::printing::{give_text, have_texts, turn_text};
 use crate::sink::{Sink, SinkError};
-use crate::status::{Passed, Status, Stop};
+use crate::status::{Status, Stop};
+use sl_past::Remark;
 use sl_sched::{Event, Line, read_line};
-use sl_text::put;
-use sl_trace::{Printed, write_note};
-use sl_types::{LineFault, NoMemory, Setup};
+use sl_types::{LineFault, Setup};
+use sl_world::{World, WorldFault};
 use std::alloc::Global;
 
 fn write_all<K: Sink>(bytes: &[u8], sink: &mut K) -> Result<(), Stop>
@@ -26,127 +30,129 @@ fn write_all<K: Sink>(bytes: &[u8], sink: &mut K) -> Result<(), Stop>
     }
 }
 
-/// A line's text, with its end.
-fn silent_text(alloc: Global, line: &[u8]) -> Result<Vec<u8>, NoMemory>
-    ensures { IfOk result (λ text. text.items ≡ ended line.now) }
-{
-    let mut out = Vec::new(alloc);
-    put(&mut out, line)?;
-    put(&mut out, b"\n")?;
-    Ok(out)
-}
-
-/// A line's text and the note behind it, each with its end.
-#[tactic(auto, using(crate::proofs::Texts::joined), unfolding(sl_defs::specs::Histories::notes_text))]
-fn noted_text(alloc: Global, line: &[u8], note: &Printed) -> Result<Vec<u8>, NoMemory>
-    ensures { IfOk result (λ text. text.items ≡ ended line.now ++ notes_text (note.now ∷ [])) }
-{
-    let mut out = silent_text(alloc, line)?;
-    write_note(note, &mut out)?;
-    put(&mut out, b"\n")?;
-    Ok(out)
-}
-
-/// Writes a line with the note behind it.
-fn write_noted<K: Sink>(
+/// Writes a line with the notes behind it, by one write, where each has a text.
+fn write_turn<K: Sink>(
     alloc: Global,
     line: &[u8],
-    note: &Printed,
+    notes: &[Remark],
     sink: &mut K,
 ) -> Result<(), Stop>
-    ensures wrote { Wrote result (ended line.now ++ notes_text (note.now ∷ [])) (K.holds sink.old) (K.holds sink.new) }
+    ensures wrote { WroteTurn result line.now (map remark_of notes.now) (K.holds sink.old) (K.holds sink.new) }
     ensures cause { StopCounts (K.faults sink.old) (K.faults sink.new) result }
 {
-    match noted_text(alloc, line, note) {
+    if !have_texts(notes) {
+        return Err(Stop::Unbuilt);
+    }
+    match turn_text(alloc, line, notes) {
         Ok(text) => write_all(&text, sink),
         Err(_) => Err(Stop::NoMemory),
     }
 }
 
-/// Writes a line without a note.
-fn write_silent<K: Sink>(alloc: Global, line: &[u8], sink: &mut K) -> Result<(), Stop>
-    ensures wrote { Wrote result (ended line.now) (K.holds sink.old) (K.holds sink.new) }
-    ensures cause { StopCounts (K.faults sink.old) (K.faults sink.new) result }
+/// Why a line isn't performed, where the world doesn't perform its event.
+fn stop_of(fault: WorldFault) -> Stop
+    ensures { result ≡ stop_by fault }
 {
-    match silent_text(alloc, line) {
-        Ok(text) => write_all(&text, sink),
-        Err(_) => Err(Stop::NoMemory),
+    match fault {
+        WorldFault::UnknownFrame(_) => Stop::Bad,
+        WorldFault::NotBuilt => Stop::Unbuilt,
+        WorldFault::Spent => Stop::Spent,
+        WorldFault::NoMemory => Stop::NoMemory,
     }
 }
 
-/// The note of a datagram's arrival as this event, and Unbuilt where it needs a server.
-fn note_of(alloc: Global, datagram: &[u8], event: u64) -> Result<Printed, Stop>
-    ensures { NotesArrival result event datagram.now }
-{
-    match answer_to(alloc, datagram) {
-        Ok(Answer::Junk) => Ok(Printed::Junk(event)),
-        Ok(Answer::Reply(bytes)) => Ok(Printed::Reply {
-            arrival: event,
-            event,
-            bytes,
-        }),
-        Ok(Answer::NeedsServer) => Err(Stop::Unbuilt),
-        Err(_) => Err(Stop::NoMemory),
-    }
-}
-
-/// Performs a datagram's arrival, whose line is this text, as this event.
-fn perform_call<K: Sink>(
+/// Performs an event, whose line is this text.
+fn perform_event<K: Sink>(
     alloc: Global,
+    world: &mut World,
     text: &[u8],
-    datagram: &[u8],
-    event: u64,
+    event: &Event,
     sink: &mut K,
 ) -> Result<(), Stop>
-    ensures done { CallDone result event text.now datagram.now (K.holds sink.old) (K.holds sink.new) }
+    requires { text.now ≡ line_text (line.Happens event.now) }
+    ensures done { (past : History) → Stood world.old past
+        → LineDone result (line.Happens event.now) past world.new (K.holds sink.old) (K.holds sink.new) }
     ensures cause { StopCounts (K.faults sink.old) (K.faults sink.new) result }
 {
-    match note_of(alloc, datagram, event) {
-        Ok(note) => write_noted(alloc, text, &note, sink),
-        Err(stop) => Err(stop),
+    match world.event(alloc, event) {
+        Ok(notes) => write_turn(alloc, text, notes.as_slice(), sink),
+        Err(fault) => Err(stop_of(fault)),
     }
 }
 
-/// Performs a line behind the first, as this event if it is one.
+/// Gives the frame of this number.
+fn give<K: Sink>(alloc: Global, world: &mut World, number: u64, sink: &mut K) -> Result<(), Stop>
+    ensures done { (past : History) → Stood world.old past
+        → LineDone result (line.Happens (event.Give number)) past world.new (K.holds sink.old) (K.holds sink.new) }
+    ensures cause { StopCounts (K.faults sink.old) (K.faults sink.new) result }
+{
+    match give_text(alloc, number) {
+        Ok(text) => perform_event(alloc, world, &text, &Event::Give(number), sink),
+        Err(_) => Err(Stop::NoMemory),
+    }
+}
+
+/// Gives the oldest frame in flight, up to so many times.
+fn flow<K: Sink>(alloc: Global, world: &mut World, most: u32, sink: &mut K) -> Result<(), Stop>
+    ensures done { (past : History) → Stood world.old past
+        → LineDone result (line.Flow most) past world.new (K.holds sink.old) (K.holds sink.new) }
+    ensures cause { StopCounts (K.faults sink.old) (K.faults sink.new) result }
+{
+    for _i in 0..most {
+        let Some(number) = world.oldest() else {
+            return Ok(());
+        };
+        match give(alloc, world, number, sink) {
+            Ok(()) => {}
+            Err(stop) => return Err(stop),
+        }
+    }
+    Ok(())
+}
+
+/// Performs a line behind the first.
 fn perform_line<K: Sink>(
     alloc: Global,
-    setup: &Setup,
+    world: &mut World,
     text: &[u8],
-    event: u64,
     sink: &mut K,
-) -> Result<Passed, Stop>
-    ensures done { LineDone result setup.now event text.now (K.holds sink.old) (K.holds sink.new) }
+) -> Result<(), Stop>
+    ensures done { (past : History) → Stood world.old past → TextDone result text.now past world.new (K.holds sink.old) (K.holds sink.new) }
     ensures cause { StopCounts (K.faults sink.old) (K.faults sink.new) result }
 {
-    match read_line(alloc, text, Some(setup)) {
-        Ok(
-            Line::Happens(
-                Event::Call {
-                    client: _,
-                    datagram,
-                },
-            ),
-        ) => match perform_call(alloc, text, datagram.as_slice(), event, sink) {
-            Ok(()) => Ok(Passed::Event),
-            Err(stop) => Err(stop),
-        },
-        Ok(Line::Remark(_)) => Ok(Passed::Remark),
-        Ok(_) => Err(Stop::Unbuilt),
+    match read_line(alloc, text, Some(&world.proxy.setup)) {
+        Ok(Line::Happens(event)) => perform_event(alloc, world, text, &event, sink),
+        Ok(Line::Flow(most)) => flow(alloc, world, most, sink),
+        Ok(Line::Remark(_)) => Ok(()),
+        Ok(Line::At(_)) => Err(Stop::Unbuilt),
+        Ok(Line::Volume(_)) => Err(Stop::Bad),
         Err(LineFault::Bad) => Err(Stop::Bad),
         Err(LineFault::NoMemory) => Err(Stop::NoMemory),
     }
 }
 
+/// Opens a volume, whose line is this text.
+fn open<K: Sink>(alloc: Global, text: &[u8], setup: &Setup, sink: &mut K) -> Result<World, Stop>
+    requires { text.now ≡ line_text (line.Volume setup.now) }
+    ensures done { OpeningDone result setup.now (K.holds sink.old) (K.holds sink.new) }
+    ensures cause { StopCounts (K.faults sink.old) (K.faults sink.new) result }
+{
+    match World::open(alloc, setup) {
+        Ok((world, notes)) => match write_turn(alloc, text, notes.as_slice(), sink) {
+            Ok(()) => Ok(world),
+            Err(stop) => Err(stop),
+        },
+        Err(fault) => Err(stop_of(fault)),
+    }
+}
+
 /// Performs the first line, which is the volume's.
-fn perform_first<K: Sink>(alloc: Global, text: &[u8], sink: &mut K) -> Result<Setup, Stop>
+fn perform_first<K: Sink>(alloc: Global, text: &[u8], sink: &mut K) -> Result<World, Stop>
     ensures done { FirstDone result text.now (K.holds sink.old) (K.holds sink.new) }
     ensures cause { StopCounts (K.faults sink.old) (K.faults sink.new) result }
 {
     match read_line(alloc, text, None) {
-        Ok(Line::Volume(setup)) => match write_silent(alloc, text, sink) {
-            Ok(()) => Ok(setup),
-            Err(stop) => Err(stop),
-        },
+        Ok(Line::Volume(setup)) => open(alloc, text, &setup, sink),
         Ok(_) => Err(Stop::Bad),
         Err(LineFault::Bad) => Err(Stop::Bad),
         Err(LineFault::NoMemory) => Err(Stop::NoMemory),
@@ -161,18 +167,8 @@ fn status_of(stop: Stop, k: u64) -> Status
         Stop::WriteFault => Status::WriteFault,
         Stop::Bad => Status::BadLine(k),
         Stop::Unbuilt => Status::Unbuilt(k),
+        Stop::Spent => Status::Spent,
         Stop::NoMemory => Status::NoMemory,
-    }
-}
-
-/// The number of the next event, behind a line that passed.
-fn next_event(event: u64, passed: Passed) -> u64
-    requires { event + 1 < 2 ^ 64 }
-    ensures { result ≡ event + events_of passed }
-{
-    match passed {
-        Passed::Event => event + 1,
-        Passed::Remark => event,
     }
 }
 
@@ -184,19 +180,17 @@ pub fn perform<K: Sink>(alloc: Global, source: &[u8], sink: &mut K) -> Status
     ensures fault { result ≡ Status.WriteFault → Rose (K.faults sink.old) (K.faults sink.new) }
 {
     let (first, mut rest) = cut_line(without_end(source));
-    let setup = match perform_first(alloc, first, sink) {
-        Ok(setup) => setup,
+    let mut world = match perform_first(alloc, first, sink) {
+        Ok(world) => world,
         Err(stop) => return status_of(stop, 1),
     };
     let mut line = 2u64;
-    let mut event = 1u64;
     while let Some(text) = rest {
         let (this, after) = cut_line(text);
-        let passed = match perform_line(alloc, &setup, this, event, sink) {
-            Ok(passed) => passed,
+        match perform_line(alloc, &mut world, this, sink) {
+            Ok(()) => {}
             Err(stop) => return status_of(stop, line),
-        };
-        event = next_event(event, passed);
+        }
         line += 1;
         rest = after;
     }

@@ -7,15 +7,17 @@ pub enum Status {
     ReadFault,
     /// The sink failed.
     WriteFault,
-    /// This line, from 1, is the first that is outside the grammar.
+    /// This line, from 1, is the first that is outside the grammar, or names a frame that isn't in flight.
     BadLine(u64),
     NoMemory,
     /// The words aren't those of a command.
     BadWords,
     /// The source gave more than 67108864 bytes.
     TooLong,
-    /// This line, from 1, is the first that is of a form that isn't built.
+    /// This line, from 1, is the first that asks for what isn't built.
     Unbuilt(u64),
+    /// A count would pass its last value.
+    Spent,
 }
 
 /// Why a line was not performed.
@@ -24,16 +26,8 @@ pub enum Stop {
     WriteFault,
     Bad,
     Unbuilt,
+    Spent,
     NoMemory,
-}
-
-/// What became of a line behind the first.
-#[derive(Clone, Copy, Debug, PartialEq, Eq)]
-pub enum Passed {
-    /// It was performed as an event.
-    Event,
-    /// It was passed over.
-    Remark,
 }
 
 /// Why the source was not read to its end.

@@ -6,8 +6,7 @@ use Rattle.slice.proofs.perform.perform.Given as goal
 
 abbrev pub invariant-loop-rest : goal.invariant-loop-rest
 invariant-loop-rest g l = record {
-  so : Sofar l.source l.setup (lines_left l.rest) l.line l.event (g.K.Sink.holds l.fn.sink) (g.K.Sink.holds l.sink);
-  few : l.event ≤ l.line;
+  so : Sofar l.source l.world (lines_left l.rest) l.line (g.K.Sink.holds l.fn.sink) (g.K.Sink.holds l.sink);
   small : l.line + size_left l.rest ≤ 67108867;
   later : g.K.Sink.faults l.fn.sink ≤ g.K.Sink.faults l.sink;
 }
