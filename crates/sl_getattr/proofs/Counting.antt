@@ -114,6 +114,18 @@ counted_calm past t p calm nothing c = record {
   fence = c.fence;
 }
 
+-- The proxy says hello again.
+pub counted_hello : (past : History) (t : Turn) (p : Proxy) (k : ℕ) (f : Frame) → t.remarks ≡ Sent k f ∷ [] → hello_in f f.«body» ≡ Some p.fence → arrives (events (t ∷ past)) t (asked_by t) ≡ []
+    → Counted past p → Counted (t ∷ past) p
+unfolding last_hello
+counted_hello past t p k f are says nothing c = record {
+  hello = ap (λ rs. or_else (last_among hello_fence rs) (last_in hello_fence past)) are ∙ ap (λ o. or_else (or_else None o) (last_in hello_fence past)) says;
+  verf = verf_stays past t (if p.welcomed then Some p.fence else None) (ap (last_among verf_of) are) c.verf;
+  waits = waits_after past t ∙ ap (λ rs. waits_on rs (waiting past ++ arrives (events (t ∷ past)) t (asked_by t))) are ∙ ap (λ ns. waiting past ++ ns) nothing ∙ append-nil (waiting past) ∙ c.waits;
+  none = c.none;
+  fence = c.fence;
+}
+
 -- The proxy is welcomed.
 pub counted_verf : (past : History) (t : Turn) (p : Proxy) → t.remarks ≡ Verf p.fence ∷ [] → p.welcomed ≡ false → Counted past p → Counted (t ∷ past) (record p { welcomed = true })
 unfolding last_verf

@@ -126,7 +126,7 @@ verdict_is : (m : Coord) (f : Frame) → f.«body» ≡ body.Hello → verdict f
 unfolding verdict
 verdict_is m f is = rw is refl
 
-nothing_unfinished : (rs : List Record) → started_of rs ≡ [] → unfinished rs ≡ []
+pub nothing_unfinished : (rs : List Record) → started_of rs ≡ [] → unfinished rs ≡ []
 nothing_unfinished rs none = ap (still_going rs) none
 
 greets_is : (a : Actor) (m : Coord) → started_of a.records ≡ [] → greets a m ≡ still (record m { owes = true }) (Proceeds ∷ [])

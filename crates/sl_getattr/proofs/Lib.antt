@@ -24,3 +24,4 @@ pub mod Licensing
 pub mod Fencing
 pub mod Wiring
 pub mod Remembering
+pub mod Ticking

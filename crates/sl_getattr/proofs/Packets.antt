@@ -43,13 +43,15 @@ use Rattle.sl_machine.specs.Calls.{is_foreign}
 use Rattle.sl_machine.specs.Packets.{forwarded, with_keepers, keepers, keepers_at, keepers_text, handle_in, put_at, outer, outer_text, reply_in}
 use Rattle.sl_getattr.proofs.Stepping.{same_some, not_none, not_both}
 use Rattle.sl_getattr.proofs.Looking.{look_by, is_root}
-use Rattle.sl_getattr.proofs.Turning.{ForwardsAreRead, AnswersAreRead}
+use Rattle.sl_getattr.proofs.Turning.{ForwardsAreRead, CallsFit}
+use Rattle.sl_getattr.proofs.Remembering.{AnswersAreRead}
 use Rattle.sl_getattr.proofs.Splicing.{length_in, end_spliced}
 
 -- ---- a datagram that is a call is a call's packet
 
 record IsPacketOf (bytes : List ℕ) (q : Asked) : Type 0 where
   header : CallHeader
+  xid : header.xid ≡ q.xid
   is : IsCallPacket bytes header q.call
 
 none_refused : (h : CallHeader) (o : Option Refusal) → refusal_of h ≡ o → immediate_of h (refused_with h o) ≡ None → refusal_of h ≡ None
@@ -66,6 +68,7 @@ module _ (bytes : List ℕ) (q : Asked) (fits : AreBytes bytes) where
       let took = args_takes h.procedure args c rest read in
       record {
         header = h;
+        xid = ap (λ (q : Asked). q.xid) (same_some is);
         is = subst (IsCallPacket bytes h) (ap (λ (q : Asked). q.call) (same_some is)) (record {
           head = head.0;
           args = args;
@@ -254,6 +257,12 @@ module _ (handles : HandlesHaveSlots) (call_xids : CallXidsHaveSlots) where
         fits = subst (λ (a : Asked). a.xid < 2 ^ 32) same (omega arith);
       }
 
+  pub calls_fit : CallsFit
+  calls_fit bytes object q fits read asks =
+      let of = is_packet bytes q fits read in
+      let packet : IsCallPacket bytes of.header (call.Getattr object) = subst (IsCallPacket bytes of.header) asks of.is in
+      (subst (λ n. n < 2 ^ 32) of.xid of.is.is_header.fits.xid, λ h spelled. (its_fits bytes of.header object h fits packet spelled).volume)
+
 -- ---- an answer
 
 behind_xid : List ℕ
@@ -321,10 +330,14 @@ of_volume volume h small is = subst (λ v. v < 2 ^ 64) (sym (same volume h.volum
     same : (a b : ℕ) → (a == b) ≡ true → a ≡ b
     same a b is = grind arith
 
+reply_fits : (volume : ℕ) (o : Option Handle) → ((h : Handle) → o ≡ Some h → h.volume < 2 ^ 64) → FitsReply (reply.Getattr (look_by volume o)) × ReplyInRange (reply.Getattr (look_by volume o))
+reply_fits volume None small = (refl, tt)
+reply_fits volume (Some h) small = in_range volume (is_root volume h) (of_volume volume h (small h refl))
+
 pub answers_are_read : AnswersAreRead
 unfolding reply_in
-answers_are_read volume q h small fits r read =
-    let range = in_range volume (is_root volume h) (of_volume volume h small) in
-    let spells = reply_spells (reply.Getattr (look_by volume (Some h))) range.0 range.1 in
-    same_some (sym read ∙ ap (λ o. option_and_then (reply_of 1) o) (results_found q.xid (reply_text (reply.Getattr (look_by volume (Some h)))) fits)
-    ∙ spelled_is_read (reply.Getattr (look_by volume (Some h))) (reply_text (reply.Getattr (look_by volume (Some h)))) spells)
+answers_are_read volume q o small fits r read =
+    let range = reply_fits volume o small in
+    let spells = reply_spells (reply.Getattr (look_by volume o)) range.0 range.1 in
+    same_some (sym read ∙ ap (λ z. option_and_then (reply_of 1) z) (results_found q.xid (reply_text (reply.Getattr (look_by volume o))) fits)
+    ∙ spelled_is_read (reply.Getattr (look_by volume o)) (reply_text (reply.Getattr (look_by volume o))) spells)

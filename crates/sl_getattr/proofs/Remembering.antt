@@ -1,6 +1,5 @@
 -- No reply tells the attributes of a regular file, so that none is asked for again.
-use Rattle.std.proofs.Common.{◌≡◌, ℕ, ◌+◌, ◌<◌, ◌==◌, ◌&&◌, ◌||◌, ◌^◌, Bool, true, false, List, [], ◌∷◌, ◌++◌, Option, Some, None, Ok, Err, refl, sym, ap, subst, ◌∙◌, append_assoc, if◌then◌else◌}
-use Rattle.std.proofs.lemmas.List.{append-nil}
+use Rattle.std.proofs.Common.{◌≡◌, ℕ, ◌<◌, ◌==◌, ◌||◌, ◌^◌, Bool, true, false, List, [], ◌∷◌, ◌++◌, Option, Some, None, Ok, Err, refl, ap, ◌∙◌, append_assoc, if◌then◌else◌}
 use Rattle.std.specs.Prelude.{option_and_then}
 use Rattle.sl_types.specs.declared.handle.Handle.{Handle}
 use Rattle.sl_types.specs.declared.kind.Status.TheVariants as status
@@ -11,7 +10,7 @@ use Rattle.sl_model.specs.Perform.{new_root}
 use Rattle.sl_history.specs.Turns.{Remark, Sent, Did, Flush, Verf, Replied, Junk, Early, Full, Lost, Down, Turn, History, so_far, events}
 use Rattle.sl_history.specs.Arrivals.{Asked, asked, answer_to}
 use Rattle.sl_history.specs.Wired.{results_of}
-use Rattle.sl_history.specs.Remembering.{attributes_in, is_file, tells_by, tells_among, tells, asks_again_by, IsKnown, AllMayBeNoted}
+use Rattle.sl_history.specs.Remembering.{attributes_in, is_file, tells_by, tells_among, tells, AllMayBeNoted}
 use Rattle.sl_machine.specs.Packets.{reply_in}
 use Rattle.sl_getattr.proofs.Stepping.{not_both}
 use Rattle.sl_getattr.proofs.Looking.{look_by, is_root}

@@ -156,3 +156,24 @@ founds_row x a m s (directories.IsAdmitted g d is row) = absurd (apart is refl)
 founds_row x a m s (directories.IsTakenUp g is row) = absurd (apart is refl)
 founds_row x a m s (directories.IsFounded is row) = Makes row
 founds_row x a m s (directories.IsOpen is row) = Opens row
+
+-- ---- at a tick
+
+pub proxy_ticks : (x : Scene) (p : Proxy) (s : Segment) → ProxyRow x p Ticks s → proxies.SendsAgain p s
+proxy_ticks x p s (proxies.IsTaken m c b is row) = absurd (apart is refl)
+proxy_ticks x p s (proxies.IsGoing m is row) = absurd (apart is refl)
+proxy_ticks x p s (proxies.IsWaking is row) = absurd (apart is refl)
+proxy_ticks x p s (proxies.IsUsed f e is row) = absurd (apart is refl)
+proxy_ticks x p s (proxies.IsRenewed f e is row) = absurd (apart is refl)
+proxy_ticks x p s (proxies.IsGreeted f e is row) = absurd (apart is refl)
+proxy_ticks x p s (proxies.IsIgnored f e is row) = absurd (apart is refl)
+proxy_ticks x p s (proxies.IsSentAgain is row) = row
+
+pub coordinator_ticks : (x : Scene) (a : Actor) (m : Coord) (s : Segment) → CoordinatorRow x a m Ticks s → coordinators.SendsAgain a m s
+coordinator_ticks x a m s (coordinators.IsRenewed g d is row) = absurd (apart is refl)
+coordinator_ticks x a m s (coordinators.IsAdmitted g d is row) = absurd (apart is refl)
+coordinator_ticks x a m s (coordinators.IsRefused op is row) = absurd (apart is refl)
+coordinator_ticks x a m s (coordinators.IsStarted is row) = absurd (apart is refl)
+coordinator_ticks x a m s (coordinators.IsWelcomed is row) = absurd (apart is refl)
+coordinator_ticks x a m s (coordinators.IsResting is row) = absurd (apart is refl)
+coordinator_ticks x a m s (coordinators.IsSentAgain is row) = row

@@ -60,6 +60,8 @@ pub record IsOut (s : Setup) (h : History) (owner : ℕ → Owner) (next n : ℕ
   pub procedure : w.asked.procedure ≡ 1
   pub asks : w.asked.call ≡ call.Getattr object
   pub spelled : handle_of object ≡ Some handle
+  pub fits : w.asked.xid < 2 ^ 32
+  pub small : handle.volume < 2 ^ 64
   pub accepted : was_dropped (turn_of h n) n ≡ false
   pub unanswered : any_in (is_reply n) h ≡ false
   pub before : n ≤ events h
@@ -73,6 +75,7 @@ pub record IsOut (s : Setup) (h : History) (owner : ℕ → Owner) (next n : ℕ
   pub to : request.to ≡ 16
   pub tag : request.tag < next
   pub owned : owner request.tag ≡ record { call = n; handle = handle }
+  pub says : (q : Asked) → asked_in (datagram packet) ≡ Some q → AsksFor q handle
 
 pub record IsProxy (s : Setup) (h : History) (owner : ℕ → Owner) (next : ℕ) (p : Proxy) : Type 0 where
   pub soft : p.soft ≡ no_soft

@@ -224,6 +224,8 @@ still_out s past t owner owner' next next' n w out none less same = record {
   procedure = out.procedure;
   asks = out.asks;
   spelled = out.spelled;
+  fits = out.fits;
+  small = out.small;
   accepted = ap (λ o. was_dropped o n) (same_turn past t n out.before) ∙ out.accepted;
   unanswered = neither (any_in (is_reply n) past) (any_among (is_reply n) t.remarks) out.unanswered none;
   before = raised (events past) (event_count t.happening) n out.before;
@@ -237,6 +239,7 @@ still_out s past t owner owner' next next' n w out none less same = record {
   to = out.to;
   tag = less_yet out.request.tag next next' out.tag less;
   owned = same out.request.tag out.tag ∙ out.owned;
+  says = out.says;
 }
   where
     less_yet : (a b c : ℕ) → a < b → b ≤ c → a < c

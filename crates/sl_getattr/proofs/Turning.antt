@@ -2,16 +2,16 @@
 use Rattle.std.proofs.Common.{◌≡◌, ℕ, ◌+◌, ◌<◌, ◌≤◌, ◌==◌, ◌^◌, ◌&&◌, ◌||◌, Bool, true, false, not, List, [], ◌∷◌, ◌++◌, Option, Some, None, refl, sym, ap, subst, ◌∙◌, arith, nat_le, if◌then◌else◌}
 use Rattle.std.specs.Prelude.{option_and_then}
 use Rattle.std.specs.Ordering.{nat_cmp, eq_by_cmp}
-use Rattle.std.specs.FinMap.{get, insert, remove, len}
+use Rattle.std.specs.FinMap.{FinMap, get, insert, remove, len}
 use Rattle.sl_defs.specs.Histories.{event_count, Happening, Happens}
 use Rattle.sl_defs.specs.Items.{AreBytes}
 use Rattle.sl_defs.specs.declared.setup.Setup.{Setup}
 use Rattle.sl_defs.specs.declared.setup.Time.{Time}
+use Rattle.sl_defs.specs.declared.event.Event.{Event}
 use Rattle.sl_defs.specs.declared.event.Event.TheVariants as event
 use Rattle.sl_types.specs.declared.call.Call.TheVariants as call
 use Rattle.sl_types.specs.declared.handle.Handle.{Handle}
 use Rattle.sl_types.specs.Handles.{handle_of}
-use Rattle.sl_types.specs.declared.reply.Reply.{Reply}
 use Rattle.sl_types.specs.declared.reply.Reply.TheVariants as reply
 use Rattle.sl_model.specs.Perform.{fresh}
 use Rattle.sl_frames.specs.declared.frame.Frame.{Frame}
@@ -29,8 +29,8 @@ use Rattle.sl_history.specs.Legal.{any_in, any_among, is_reply, was_dropped, dat
 use Rattle.sl_machine.specs.Calls.{is_foreign}
 use Rattle.sl_machine.specs.Records.{Record}
 use Rattle.sl_machine.specs.Memory.{Site, Coord, Waiting, Proxy, Memory, Actor, OfProxy, OfCoord, OfSite}
-use Rattle.sl_machine.specs.Packets.{forwarded, reply_in}
-use Rattle.sl_machine.specs.World.{World, Flying, Given, Arrives, Told, nothing, numbered, begun, landed}
+use Rattle.sl_machine.specs.Packets.{forwarded}
+use Rattle.sl_machine.specs.World.{World, Flying, Given, Arrives, Told, nothing, numbered, begun}
 use Rattle.sl_machine.specs.Runs.{Steps, remarks_of}
 use Rattle.sl_transport.proofs.Proper.{Each}
 use Rattle.sl_getattr.specs.Built.{IsTaken}
@@ -39,6 +39,8 @@ use Rattle.sl_getattr.proofs.Maps.{of_put, Put, IsNew, WasThere, of_removal}
 use Rattle.sl_getattr.proofs.Looking.{look_by}
 use Rattle.sl_getattr.proofs.Sound.{IsBare, Tale, Owner, AsksFor, IsOut, IsProxy, Forwards, IsFine, IsWelcome, IsForward, IsPacket, IsSound, Sound}
 use Rattle.sl_getattr.proofs.Tales.{HasNoEffect, IsPlain, no_effect, no_reply, plain_drops, plain_both, plain_frames, plain_legal, drop_legal, answer_legal, at_once_legal, refusal_legal, own_turn, same_turn, still_out}
+use Rattle.sl_history.specs.Remembering.{tells_by, tells_among}
+use Rattle.sl_getattr.proofs.Remembering.{AnswersAreRead, tells_no_file, plain_untold, one_untold}
 use Rattle.sl_getattr.proofs.Wiring.{AllWire, TellsNothing, IsAnswering, wire_both, frames_wire, downs_wire}
 use Rattle.sl_history.specs.Wired.{is_answer, fits}
 use Rattle.sl_history.specs.Frames.{IsGivenIn}
@@ -46,7 +48,7 @@ use Rattle.sl_getattr.proofs.Fencing.{plain_fenced, waited_still, came_just_now,
 use Rattle.sl_getattr.proofs.Licensing.{AreHarmless, harmless_both, harmless_frames, harmless_licensed, lost_before}
 use Rattle.sl_getattr.proofs.Counting.{Counted, IsCalm, calm_both, calm_frames, counted_calm, counted_verf, counted_waited, counted_refused, counted_asks, dropped_nothing, crowded_is, due_is}
 use Rattle.sl_getattr.proofs.Keys.{unknown_key}
-use Rattle.sl_getattr.proofs.Flights.{AllFly, fly_landed}
+use Rattle.sl_getattr.proofs.Flights.{AllFly}
 use Rattle.sl_getattr.proofs.Doing.{Did}
 use Rattle.sl_getattr.proofs.Arriving.{AreShared, shared_by, holding, its_request, with_look, its_frame}
 use Rattle.sl_getattr.proofs.Taking.{IsNote, OfJunk, OfAnswer, OfEarly, OfFull, IsIn, Arrival, Noted, Refused, Asks, arrives_so}
@@ -64,11 +66,10 @@ ForwardsAreRead =
     (s : Setup) (tag : ℕ) (bytes object : List ℕ) (q : Asked) (h : Handle) → AreBytes bytes → datagram bytes ≡ IsAsked q → q.call ≡ call.Getattr object → handle_of object ≡ Some h → is_foreign s h ≡ false
     → (r : Asked) → asked_in (datagram (forwarded 16 tag q.call bytes)) ≡ Some r → AsksFor r h
 
--- The answer is read as it was written.
-abbrev pub AnswersAreRead : Type 0
-AnswersAreRead =
-    (volume : ℕ) (q : Asked) (h : Handle) → h.volume < 2 ^ 64 → q.xid < 2 ^ 32 → (r : Reply) → reply_in 1 (answer_to q (reply.Getattr (look_by volume (Some h)))) ≡ Some r
-    → r ≡ reply.Getattr (look_by volume (Some h))
+-- The numbers of a GETATTR are in the ranges of their types.
+abbrev pub CallsFit : Type 0
+CallsFit =
+    (bytes object : List ℕ) (q : Asked) → AreBytes bytes → datagram bytes ≡ IsAsked q → q.call ≡ call.Getattr object → (q.xid < 2 ^ 32) × ((h : Handle) → handle_of object ≡ Some h → h.volume < 2 ^ 64)
 
 -- ---- a turn
 
@@ -79,11 +80,12 @@ pub record Went (s : Setup) (past : History) (t : Turn) (w' : World) : Type 0 wh
   pub licensed : licensed.AllMayBeNoted (fresh s.volume) t past [] t.remarks
   pub fenced : fenced.AllMayBeNoted t past [] t.remarks
   pub wires : AllWire past t t.remarks
+  pub untold : (file : ℕ) → tells_among (t ∷ past) file t.remarks ≡ false
 
 abbrev pub turn : Happening → Time → List Remark → Turn
 turn x at rs = record { happening = x; moment = at; remarks = rs }
 
-remarks_are : (i : ℕ) (v : World) (w' : World) (n' : Told) (m : Option Memory) (rs : List Record) (fs : List Frame) (notes : List Remark) → Did i v nothing w' n' m rs fs notes
+pub remarks_are : (i : ℕ) (v : World) (w' : World) (n' : Told) (m : Option Memory) (rs : List Record) (fs : List Frame) (notes : List Remark) → Did i v nothing w' n' m rs fs notes
     → remarks_of n' ≡ numbered v.next_frame fs ++ notes
 remarks_are i v w' n' m rs fs notes did = ap (λ ms. ms ++ n'.notes) did.frames ∙ ap (λ ms. numbered v.next_frame fs ++ ms) did.noted
 
@@ -117,13 +119,21 @@ unfolding asked
 asked_out s past t owner next n c out =
     ap (option_and_then asked_by) (same_turn past t n out.before) ∙ asked_by_datagram (turn_of past n) ∙ ap (option_and_then (λ b. asked_in (datagram b))) out.came ∙ ap asked_in out.read
 
+-- the event brings no datagram, and stops nobody
+pub record OfFrame (past : History) (x : Event) : Type 0 where
+  pub none : datagram_of (Happens x) ≡ None
+  pub calm : stops_one past (Happens x) ≡ false
+
+pub no_call : (n : ℕ) (t : Turn) (x : Event) → datagram_of (Happens x) ≡ None → arrives n t (option_and_then (λ b. asked_in (datagram b)) (datagram_of (Happens x))) ≡ []
+no_call n t x none = ap (λ o. arrives n t (option_and_then (λ b. asked_in (datagram b)) o)) none
+
 -- Before the first write verifier, the proxy's fence is a new one.
-first_verf : (s : Setup) (past : History) (t : Turn) (k : ℕ) (p : Proxy) → t.happening ≡ Happens (event.Give k) → Tale s past → Counted past p → p.welcomed ≡ false
+first_verf : (s : Setup) (past : History) (t : Turn) (p : Proxy) → stops_one past t.happening ≡ false → Tale s past → Counted past p → p.welcomed ≡ false
     → IsRenewal (fresh s.volume) (so_far t [] ∷ past) p.fence
 unfolding volume_after may_be_lost last_verf
-first_verf s past t k p is tale counted first = record {
+first_verf s past t p calm tale counted first = record {
   greater = subst (λ v. v < p.fence) (sym (tale.verifier none)) counted.fence;
-  lost = ap (λ x. may_be_lost past || stops_one past x) is ∙ or_false (may_be_lost past) ∙ lost_before past none;
+  lost = ap (λ b. may_be_lost past || b) calm ∙ or_false (may_be_lost past) ∙ lost_before past none;
 }
   where
     none : last_in verf_of past ≡ None
@@ -133,27 +143,27 @@ first_verf s past t k p is tale counted first = record {
     or_false true = refl
     or_false false = refl
 
-module _ (forwards : ForwardsAreRead) (answers : AnswersAreRead) (s : Setup) (one : s.dirs ≡ 1) (past : History) (w : World) (owner : ℕ → Owner) (next : ℕ)
+module _ (forwards : ForwardsAreRead) (answers : AnswersAreRead) (fit : CallsFit) (s : Setup) (one : s.dirs ≡ 1) (past : History) (w : World) (owner : ℕ → Owner) (next : ℕ)
     (sound : IsSound s past w owner next) (at : Time) where
   -- ---- the coordinator is given a Hello
 
-  pub given_hello : (k : ℕ) (f : Flying) (w' : World) (n' : Told) (a : Actor) (m : Coord) → get w.actors 1 ≡ Some a → a.memory ≡ Some (OfCoord m) → f.frame.«body» ≡ body.Hello
-      → f.frame.to ≡ 1 → IsBare f.frame → IsGivenIn past (turn (Happens (event.Give k)) at []) f.frame
-      → Steps 1 (Given f.frame f.event ∷ []) (landed (begun w) k) nothing w' n' → Went s past (turn (Happens (event.Give k)) at (remarks_of n')) w'
-  given_hello k f w' n' a m is up kind to bare given steps =
-      subst (λ rs. Went s past (turn (Happens (event.Give k)) at rs) w') (sym (remarks_are 1 v w' n' done.memory done.records done.frames done.notes done.did)) went
+  pub given_hello : (x : Event) (fl : FinMap nat_cmp Flying) (ev : OfFrame past x) (flying_fine : AllFly (IsFine s owner next (events past)) fl) (f : Flying) (w' : World) (n' : Told) (a : Actor) (m : Coord) → get w.actors 1 ≡ Some a → a.memory ≡ Some (OfCoord m) → f.frame.«body» ≡ body.Hello
+      → f.frame.to ≡ 1 → IsBare f.frame → IsGivenIn past (turn (Happens (x)) at []) f.frame
+      → Steps 1 (Given f.frame f.event ∷ []) (record (begun w) { flight = fl }) nothing w' n' → Went s past (turn (Happens (x)) at (remarks_of n')) w'
+  given_hello x fl ev flying_fine f w' n' a m is up kind to bare given steps =
+      subst (λ rs. Went s past (turn (Happens (x)) at rs) w') (sym (remarks_are 1 v w' n' done.memory done.records done.frames done.notes done.did)) went
     where
       v : World
-      v = landed (begun w) k
+      v = record (begun w) { flight = fl }
 
-      done : Greeted f.frame (landed (begun w) k) nothing w' n'
-      done = greets_so (landed (begun w) k) nothing a m f.frame f.event w' n' is up (sound.coordinator a m is up) kind steps
+      done : Greeted f.frame (record (begun w) { flight = fl }) nothing w' n'
+      done = greets_so (record (begun w) { flight = fl }) nothing a m f.frame f.event w' n' is up (sound.coordinator a m is up) kind steps
 
       remarks : List Remark
       remarks = numbered w.next_frame done.frames ++ done.notes
 
       t : Turn
-      t = turn (Happens (event.Give k)) at (numbered w.next_frame done.frames ++ done.notes)
+      t = turn (Happens (x)) at (numbered w.next_frame done.frames ++ done.notes)
 
       plain : IsPlain (numbered w.next_frame done.frames ++ done.notes)
       plain = plain_both (numbered w.next_frame done.frames) done.notes (plain_frames w.next_frame done.frames) done.plain
@@ -201,39 +211,40 @@ module _ (forwards : ForwardsAreRead) (answers : AnswersAreRead) (s : Setup) (on
       harmless : AreHarmless (numbered w.next_frame done.frames ++ done.notes)
       harmless = harmless_both (numbered w.next_frame done.frames) done.notes (harmless_frames w.next_frame done.frames (no_flush done.frames done.welcomes)) done.harmless
 
-      went : Went s past (turn (Happens (event.Give k)) at (numbered w.next_frame done.frames ++ done.notes)) w'
+      went : Went s past (turn (Happens (x)) at (numbered w.next_frame done.frames ++ done.notes)) w'
       went = record {
         sound = record {
           owner = owner;
           next = next;
-          is = one_goes s past t w (landed (begun w) k) w' n' owner owner next next 1 done.memory done.records done.frames done.notes sound refl refl (one_event w.event (events past) sound.event)
-              (fly_landed (IsFine s owner next (events past)) w.flight k sound.flight) done.did (no_more owner next) (no_effect remarks plain) (λ n less. no_reply n remarks plain) left
-              (as_before s past t owner next 1 (λ n. no_reply n remarks plain) (calm_both (numbered w.next_frame done.frames) done.notes (calm_frames w.next_frame done.frames (no_hello done.frames done.welcomes)) done.calm) refl)
+          is = one_goes s past t w (record (begun w) { flight = fl }) w' n' owner owner next next 1 done.memory done.records done.frames done.notes sound refl refl (one_event w.event (events past) sound.event)
+              (flying_fine) done.did (no_more owner next) (no_effect remarks plain) (λ n less. no_reply n remarks plain) left
+              (as_before s past t owner next 1 (λ n. no_reply n remarks plain) (calm_both (numbered w.next_frame done.frames) done.notes (calm_frames w.next_frame done.frames (no_hello done.frames done.welcomes)) done.calm) (no_call (events (t ∷ past)) t x ev.none))
               (each done.frames done.welcomes);
         };
         legal = plain_legal (fresh s.volume) past t [] (numbered w.next_frame done.frames ++ done.notes) plain;
-        drops = plain_drops (numbered w.next_frame done.frames ++ done.notes) plain;
+        drops = plain_drops (numbered w.next_frame done.frames ++ done.notes) plain ∙ sym (ap (due_drop past t) ev.none);
         licensed = harmless_licensed (fresh s.volume) past t [] (numbered w.next_frame done.frames ++ done.notes) harmless;
         fenced = plain_fenced past t [] (numbered w.next_frame done.frames ++ done.notes) plain;
         wires = wire_both past t (numbered w.next_frame done.frames) done.notes (frames_wire past t w.next_frame done.frames (answers_all done.frames done.welcomes)) (downs_wire past t done.notes done.downs);
+        untold = λ file. plain_untold (t ∷ past) file (numbered w.next_frame done.frames ++ done.notes) plain;
       }
 
   -- ---- the directory server is given a forwarded GETATTR
 
-  pub given_forward : (k : ℕ) (f : Flying) (w' : World) (n' : Told) (a : Actor) (m : Site) → get w.actors 16 ≡ Some a → a.memory ≡ Some (OfSite m) → f.frame.from ≡ 0
-      → Forwards owner next (events past) f.frame → f.frame.to ≡ 16 → IsGivenIn past (turn (Happens (event.Give k)) at []) f.frame
-      → Steps 16 (Given f.frame f.event ∷ []) (landed (begun w) k) nothing w' n' → Went s past (turn (Happens (event.Give k)) at (remarks_of n')) w'
-  given_forward k f w' n' a m is up from sent to given steps =
-      subst (λ rs. Went s past (turn (Happens (event.Give k)) at rs) w') (sym (remarks_are 16 (landed (begun w) k) w' n' done.memory done.records done.frames done.notes done.did)) went
+  pub given_forward : (x : Event) (fl : FinMap nat_cmp Flying) (ev : OfFrame past x) (flying_fine : AllFly (IsFine s owner next (events past)) fl) (f : Flying) (w' : World) (n' : Told) (a : Actor) (m : Site) → get w.actors 16 ≡ Some a → a.memory ≡ Some (OfSite m) → f.frame.from ≡ 0
+      → Forwards owner next (events past) f.frame → f.frame.to ≡ 16 → IsGivenIn past (turn (Happens (x)) at []) f.frame
+      → Steps 16 (Given f.frame f.event ∷ []) (record (begun w) { flight = fl }) nothing w' n' → Went s past (turn (Happens (x)) at (remarks_of n')) w'
+  given_forward x fl ev flying_fine f w' n' a m is up from sent to given steps =
+      subst (λ rs. Went s past (turn (Happens (x)) at rs) w') (sym (remarks_are 16 (record (begun w) { flight = fl }) w' n' done.memory done.records done.frames done.notes done.did)) went
     where
       h : Handle
       h = (owner f.frame.tag).handle
 
-      done : Served s f.frame (owner f.frame.tag).handle (landed (begun w) k) nothing w' n'
-      done = serves_so s (owner f.frame.tag).handle (landed (begun w) k) nothing a m f.frame f.event w' n' is up (sound.directory a m is up) sent.chosen sent.packet sent.is sent.says steps
+      done : Served s f.frame (owner f.frame.tag).handle (record (begun w) { flight = fl }) nothing w' n'
+      done = serves_so s (owner f.frame.tag).handle (record (begun w) { flight = fl }) nothing a m f.frame f.event w' n' is up (sound.directory a m is up) sent.chosen sent.packet sent.is sent.says steps
 
       t : Turn
-      t = turn (Happens (event.Give k)) at (numbered w.next_frame done.frames ++ done.notes)
+      t = turn (Happens (x)) at (numbered w.next_frame done.frames ++ done.notes)
 
       plain : IsPlain (numbered w.next_frame done.frames ++ done.notes)
       plain = plain_both (numbered w.next_frame done.frames) done.notes (plain_frames w.next_frame done.frames) done.plain
@@ -252,7 +263,7 @@ module _ (forwards : ForwardsAreRead) (answers : AnswersAreRead) (s : Setup) (on
         tag = subst (λ tag. tag < next) (sym answer.tag) sent.tag;
         not_before = subst (λ tag. (owner tag).call ≤ events (t ∷ past)) (sym answer.tag) (raised (owner f.frame.tag).call (events past) sent.before);
         not_later = itself (events (t ∷ past));
-        says = λ r read. answers s.volume answer.asked (owner f.frame.tag).handle answer.small answer.fits r read ∙ ap (λ tag. reply.Getattr (look_by s.volume (Some (owner tag).handle))) (sym answer.tag);
+        says = λ r read. answers s.volume answer.asked (Some (owner f.frame.tag).handle) (λ g is. subst (λ (z : Handle). z.volume < 2 ^ 64) (same_some is) answer.small) answer.fits r read ∙ ap (λ tag. reply.Getattr (look_by s.volume (Some (owner tag).handle))) (sym answer.tag);
       })
         where
           raised : (c a : ℕ) → c ≤ a → c ≤ a + 1
@@ -297,28 +308,29 @@ module _ (forwards : ForwardsAreRead) (answers : AnswersAreRead) (s : Setup) (on
       harmless : AreHarmless (numbered w.next_frame done.frames ++ done.notes)
       harmless = harmless_both (numbered w.next_frame done.frames) done.notes (harmless_frames w.next_frame done.frames (no_flush done.frames done.sends)) done.harmless
 
-      went : Went s past (turn (Happens (event.Give k)) at (numbered w.next_frame done.frames ++ done.notes)) w'
+      went : Went s past (turn (Happens (x)) at (numbered w.next_frame done.frames ++ done.notes)) w'
       went = record {
         sound = record {
           owner = owner;
           next = next;
-          is = one_goes s past t w (landed (begun w) k) w' n' owner owner next next 16 done.memory done.records done.frames done.notes sound refl refl (one_event w.event (events past) sound.event)
-              (fly_landed (IsFine s owner next (events past)) w.flight k sound.flight) done.did (no_more owner next) (no_effect (numbered w.next_frame done.frames ++ done.notes) plain)
+          is = one_goes s past t w (record (begun w) { flight = fl }) w' n' owner owner next next 16 done.memory done.records done.frames done.notes sound refl refl (one_event w.event (events past) sound.event)
+              (flying_fine) done.did (no_more owner next) (no_effect (numbered w.next_frame done.frames ++ done.notes) plain)
               (λ n less. no_reply n (numbered w.next_frame done.frames ++ done.notes) plain) left
               (as_before s past t owner next 16 (λ n. no_reply n (numbered w.next_frame done.frames ++ done.notes) plain)
-              (calm_both (numbered w.next_frame done.frames) done.notes (calm_frames w.next_frame done.frames (no_hello done.frames done.sends)) done.calm) refl) (each done.frames done.sends);
+              (calm_both (numbered w.next_frame done.frames) done.notes (calm_frames w.next_frame done.frames (no_hello done.frames done.sends)) done.calm) (no_call (events (t ∷ past)) t x ev.none)) (each done.frames done.sends);
         };
         legal = plain_legal (fresh s.volume) past t [] (numbered w.next_frame done.frames ++ done.notes) plain;
-        drops = plain_drops (numbered w.next_frame done.frames ++ done.notes) plain;
+        drops = plain_drops (numbered w.next_frame done.frames ++ done.notes) plain ∙ sym (ap (due_drop past t) ev.none);
         licensed = harmless_licensed (fresh s.volume) past t [] (numbered w.next_frame done.frames ++ done.notes) harmless;
         fenced = plain_fenced past t [] (numbered w.next_frame done.frames ++ done.notes) plain;
         wires = wire_both past t (numbered w.next_frame done.frames) done.notes (frames_wire past t w.next_frame done.frames (answers_all done.frames done.sends)) (downs_wire past t done.notes done.downs);
+        untold = λ file. plain_untold (t ∷ past) file (numbered w.next_frame done.frames ++ done.notes) plain;
       }
 
   -- ---- the proxy acts
 
   -- what it has then, where its calls are those of before, or fewer
-  left_proxy : (t : Turn) (p q : Proxy) (rs : List Record) → IsProxy s past owner next p → q.soft ≡ p.soft → q.next_tag ≡ p.next_tag
+  pub left_proxy : (t : Turn) (p q : Proxy) (rs : List Record) → IsProxy s past owner next p → q.soft ≡ p.soft → q.next_tag ≡ p.next_tag
       → ((n : ℕ) (c : Waiting) → get q.pending n ≡ Some c → (get p.pending n ≡ Some c) × (any_among (is_reply n) t.remarks ≡ false)) → Counted (t ∷ past) q → IsLeft s (t ∷ past) owner next 0 (Some (OfProxy q)) rs
   left_proxy t p q rs proxy soft tag calls counted = record {
     proxy = λ u zero_is other. subst (IsProxy s (t ∷ past) owner next) (same_proxy q u other) (record {
@@ -347,63 +359,67 @@ module _ (forwards : ForwardsAreRead) (answers : AnswersAreRead) (s : Setup) (on
       by : (n m : ℕ) → n < m → (n == m) ≡ false
       by n m less = grind arith
 
-  pub given_proxy : (k : ℕ) (f : Flying) (w' : World) (n' : Told) (a : Actor) (p : Proxy) → get w.actors 0 ≡ Some a → a.memory ≡ Some (OfProxy p)
+  pub given_proxy : (x : Event) (fl : FinMap nat_cmp Flying) (ev : OfFrame past x) (flying_fine : AllFly (IsFine s owner next (events past)) fl) (f : Flying) (w' : World) (n' : Told) (a : Actor) (p : Proxy) → get w.actors 0 ≡ Some a → a.memory ≡ Some (OfProxy p)
       → ForProxy s owner next (events past) f.frame f.event
-      → Steps 0 (Given f.frame f.event ∷ []) (landed (begun w) k) nothing w' n' → Went s past (turn (Happens (event.Give k)) at (remarks_of n')) w'
-  given_proxy k f w' n' a p is up fine steps =
-      by (uses_so s past owner next (events past) (landed (begun w) k) a p f.frame f.event w' n' is up (sound.proxy a p is up) fine steps)
+      → Steps 0 (Given f.frame f.event ∷ []) (record (begun w) { flight = fl }) nothing w' n' → Went s past (turn (Happens (x)) at (remarks_of n')) w'
+  given_proxy x fl ev flying_fine f w' n' a p is up fine steps =
+      by (uses_so s past owner next (events past) (record (begun w) { flight = fl }) a p f.frame f.event w' n' is up (sound.proxy a p is up) fine steps)
     where
       proxy : IsProxy s past owner next p
       proxy = sound.proxy a p is up
 
-      flying : AllFly (IsFine s owner next (events past)) (landed (begun w) k).flight
-      flying = fly_landed (IsFine s owner next (events past)) w.flight k sound.flight
+      flying : AllFly (IsFine s owner next (events past)) (record (begun w) { flight = fl }).flight
+      flying = flying_fine
 
       -- the first write verifier is due
-      renewal : p.welcomed ≡ false → IsRenewal (fresh s.volume) (so_far (turn (Happens (event.Give k)) at (note.Verf p.fence ∷ [])) [] ∷ past) p.fence
-      renewal first = first_verf s past (turn (Happens (event.Give k)) at (note.Verf p.fence ∷ [])) k p refl sound.tale proxy.counted first
+      renewal : p.welcomed ≡ false → IsRenewal (fresh s.volume) (so_far (turn (Happens (x)) at (note.Verf p.fence ∷ [])) [] ∷ past) p.fence
+      renewal first = first_verf s past (turn (Happens (x)) at (note.Verf p.fence ∷ [])) p ev.calm sound.tale proxy.counted first
 
-      plainly : (q : Proxy) (notes : List Remark) → IsPlain notes → q.soft ≡ p.soft → q.next_tag ≡ p.next_tag → q.pending ≡ p.pending → Counted (turn (Happens (event.Give k)) at notes ∷ past) q
-          → licensed.AllMayBeNoted (fresh s.volume) (turn (Happens (event.Give k)) at notes) past [] notes
-          → AllWire past (turn (Happens (event.Give k)) at notes) notes
-          → Did 0 (landed (begun w) k) nothing w' n' (Some (OfProxy q)) a.records [] notes → Went s past (turn (Happens (event.Give k)) at (remarks_of n')) w'
-      plainly q notes plain soft tag same counted may wires did = subst (λ rs. Went s past (turn (Happens (event.Give k)) at rs) w') (sym (remarks_are 0 (landed (begun w) k) w' n' _ _ _ _ did)) (record {
+      plainly : (q : Proxy) (notes : List Remark) → IsPlain notes → q.soft ≡ p.soft → q.next_tag ≡ p.next_tag → q.pending ≡ p.pending → Counted (turn (Happens (x)) at notes ∷ past) q
+          → licensed.AllMayBeNoted (fresh s.volume) (turn (Happens (x)) at notes) past [] notes
+          → AllWire past (turn (Happens (x)) at notes) notes
+          → Did 0 (record (begun w) { flight = fl }) nothing w' n' (Some (OfProxy q)) a.records [] notes → Went s past (turn (Happens (x)) at (remarks_of n')) w'
+      plainly q notes plain soft tag same counted may wires did = subst (λ rs. Went s past (turn (Happens (x)) at rs) w') (sym (remarks_are 0 (record (begun w) { flight = fl }) w' n' _ _ _ _ did)) (record {
         sound = record {
           owner = owner;
           next = next;
-          is = one_goes s past (turn (Happens (event.Give k)) at notes) w (landed (begun w) k) w' n' owner owner next next 0 (Some (OfProxy q)) a.records [] notes sound refl refl
+          is = one_goes s past (turn (Happens (x)) at notes) w (record (begun w) { flight = fl }) w' n' owner owner next next 0 (Some (OfProxy q)) a.records [] notes sound refl refl
               (one_event w.event (events past) sound.event) flying did (no_more owner next) (no_effect notes plain) (λ n less. no_reply n notes plain)
-              (left_proxy (turn (Happens (event.Give k)) at notes) p q a.records proxy soft tag (λ n c there. (ap (λ m. get m n) (sym same) ∙ there, no_reply n notes plain)) counted)
+              (left_proxy (turn (Happens (x)) at notes) p q a.records proxy soft tag (λ n c there. (ap (λ m. get m n) (sym same) ∙ there, no_reply n notes plain)) counted)
               (λ b z other before. never _ other) tt;
         };
-        legal = plain_legal (fresh s.volume) past (turn (Happens (event.Give k)) at notes) [] notes plain;
-        drops = plain_drops notes plain;
+        legal = plain_legal (fresh s.volume) past (turn (Happens (x)) at notes) [] notes plain;
+        drops = plain_drops notes plain ∙ sym (ap (due_drop past (turn (Happens x) at notes)) ev.none);
         licensed = may;
-        fenced = plain_fenced past (turn (Happens (event.Give k)) at notes) [] notes plain;
+        fenced = plain_fenced past (turn (Happens (x)) at notes) [] notes plain;
         wires = wires;
+        untold = λ file. plain_untold (turn (Happens (x)) at notes ∷ past) file notes plain;
       })
 
-      by : Usage s past owner next (events past) (landed (begun w) k) a.records p f.frame f.event w' n' → Went s past (turn (Happens (event.Give k)) at (remarks_of n')) w'
-      by (usage.Passed did) = plainly p [] tt refl refl refl (counted_calm past (turn (Happens (event.Give k)) at []) p tt refl proxy.counted) tt tt did
+      by : Usage s past owner next (events past) (record (begun w) { flight = fl }) a.records p f.frame f.event w' n' → Went s past (turn (Happens (x)) at (remarks_of n')) w'
+      by (usage.Passed did) = plainly p [] tt refl refl refl (counted_calm past (turn (Happens (x)) at []) p tt (no_call (events past + 1) (turn (Happens x) at []) x ev.none) proxy.counted) tt tt did
       by (usage.Welcomed first fence did) = plainly (record p { welcomed = true }) (note.Verf p.fence ∷ []) tt refl refl refl
-          (counted_verf past (turn (Happens (event.Give k)) at (note.Verf p.fence ∷ [])) p refl first proxy.counted) (renewal first, tt) (tt, tt) did
-      by (usage.Replied n c there out before after did) = subst (λ rs. Went s past (turn (Happens (event.Give k)) at rs) w') (sym (remarks_are 0 (landed (begun w) k) w' n' _ _ _ _ did)) (record {
+          (counted_verf past (turn (Happens (x)) at (note.Verf p.fence ∷ [])) p refl first proxy.counted) (renewal first, tt) (tt, tt) did
+      by (usage.Replied n c there out before after did) = subst (λ rs. Went s past (turn (Happens (x)) at rs) w') (sym (remarks_are 0 (record (begun w) { flight = fl }) w' n' _ _ _ _ did)) (record {
         sound = record {
           owner = owner;
           next = next;
-          is = one_goes s past (turn (Happens (event.Give k)) at (Replied n f.event bytes ∷ [])) w (landed (begun w) k) w' n' owner owner next next 0 (Some (OfProxy (record p { pending = remove p.pending n })))
+          is = one_goes s past (turn (Happens (x)) at (Replied n f.event bytes ∷ [])) w (record (begun w) { flight = fl }) w' n' owner owner next next 0 (Some (OfProxy (record p { pending = remove p.pending n })))
               a.records [] (Replied n f.event bytes ∷ []) sound refl refl (one_event w.event (events past) sound.event) flying did (no_more owner next) tt
               (λ m less. later_reply n m f.event bytes (before_all n (events past) m out.before less))
-              (left_proxy (turn (Happens (event.Give k)) at (Replied n f.event bytes ∷ [])) p (record p { pending = remove p.pending n }) a.records proxy refl refl
+              (left_proxy (turn (Happens (x)) at (Replied n f.event bytes ∷ [])) p (record p { pending = remove p.pending n }) a.records proxy refl refl
               (λ m d still. let left = of_removal p.pending n m d still in (left.there, other_reply n m f.event bytes left.other))
-              (counted_waited past (turn (Happens (event.Give k)) at (Replied n f.event bytes ∷ [])) p n f.event bytes refl refl proxy.counted))
+              (counted_waited past (turn (Happens (x)) at (Replied n f.event bytes ∷ [])) p n f.event bytes refl (no_call (events past + 1) (turn (Happens x) at (Replied n f.event bytes ∷ [])) x ev.none) proxy.counted))
               (λ b z other before. never _ other) tt;
         };
-        legal = (answer_legal s past (turn (Happens (event.Give k)) at (Replied n f.event bytes ∷ [])) owner next n f.event c sound.tale refl before after out, tt);
-        drops = refl;
+        legal = (answer_legal s past (turn (Happens (x)) at (Replied n f.event bytes ∷ [])) owner next n f.event c sound.tale refl before after out, tt);
+        drops = sym (ap (due_drop past (turn (Happens x) at (Replied n f.event bytes ∷ []))) ev.none);
         licensed = (tt, tt);
-        fenced = (waited_still past (turn (Happens (event.Give k)) at (Replied n f.event bytes ∷ [])) p n c refl proxy.counted there, tt);
-        wires = (λ q asked. (out.object, ap (λ (a : Asked). a.call) (same_some (sym asked ∙ asked_out s past (turn (Happens (event.Give k)) at (Replied n f.event bytes ∷ [])) owner next n c out)) ∙ out.asks), tt);
+        fenced = (waited_still past (turn (Happens (x)) at (Replied n f.event bytes ∷ [])) p n c (no_call (events past + 1) (turn (Happens x) at []) x ev.none) proxy.counted there, tt);
+        wires = (λ q asked. (out.object, ap (λ (a : Asked). a.call) (same_some (sym asked ∙ asked_out s past (turn (Happens (x)) at (Replied n f.event bytes ∷ [])) owner next n c out)) ∙ out.asks), tt);
+        untold = λ file. one_untold (turn (Happens (x)) at (Replied n f.event bytes ∷ []) ∷ past) file n f.event bytes
+            (ap (tells_by file bytes) (asked_out s past (turn (Happens (x)) at (Replied n f.event bytes ∷ [])) owner next n c out)
+            ∙ tells_no_file answers s.volume c.asked (Some out.handle) (λ g is. subst (λ (z : Handle). z.volume < 2 ^ 64) (same_some is) out.small) out.fits out.procedure file);
       })
         where
           bytes : List ℕ
@@ -423,8 +439,9 @@ module _ (forwards : ForwardsAreRead) (answers : AnswersAreRead) (s : Setup) (on
       → licensed.AllMayBeNoted (fresh s.volume) (turn (Happens (event.Call client bytes)) at (r ∷ [])) past [] (r ∷ [])
       → fenced.AllMayBeNoted (turn (Happens (event.Call client bytes)) at (r ∷ [])) past [] (r ∷ [])
       → AllWire past (turn (Happens (event.Call client bytes)) at (r ∷ [])) (r ∷ [])
+      → ((file : ℕ) → tells_among (turn (Happens (event.Call client bytes)) at (r ∷ []) ∷ past) file (r ∷ []) ≡ false)
       → Did 0 (begun w) nothing w' n' (Some (OfProxy q)) rs [] (r ∷ []) → Went s past (turn (Happens (event.Call client bytes)) at (remarks_of n')) w'
-  noted_goes client bytes w' n' p q rs r proxy soft tag calls none ahead behind legal counted drops may still wires did =
+  noted_goes client bytes w' n' p q rs r proxy soft tag calls none ahead behind legal counted drops may still wires untold did =
       subst (λ rs. Went s past (turn (Happens (event.Call client bytes)) at rs) w') (sym (remarks_are 0 (begun w) w' n' _ _ _ _ did)) (record {
         sound = record {
           owner = owner;
@@ -440,6 +457,7 @@ module _ (forwards : ForwardsAreRead) (answers : AnswersAreRead) (s : Setup) (on
         licensed = may;
         fenced = still;
         wires = wires;
+        untold = untold;
       })
 
   earlier_reply : (m e : ℕ) (bytes : List ℕ) → m ≤ events past → any_among (is_reply m) (Replied (events past + 1) e bytes ∷ []) ≡ false
@@ -488,7 +506,7 @@ module _ (forwards : ForwardsAreRead) (answers : AnswersAreRead) (s : Setup) (on
     noted_so r (OfJunk read what) did = noted_goes client bytes w' n' p p a.records (Junk (events past + 1)) the_proxy refl refl (λ n c there. there) tt (λ m less. refl) (λ m less. refl)
         (drop_legal s past (turn (Happens (event.Call client bytes)) at (Junk (events past + 1) ∷ [])) sound.tale refl, tt)
         (kept_by (Junk (events past + 1)) tt (drops_itself (events past + 1)))
-        (sym (ap option_list (due_is past (events past + 1) bytes IsJunk alive read))) (tt, tt) (tt, tt) (tt, tt)
+        (sym (ap option_list (due_is past (events past + 1) bytes IsJunk alive read))) (tt, tt) (tt, tt) (tt, tt) (λ file. refl)
         (subst (λ r. Did 0 (begun w) nothing w' n' (Some (OfProxy p)) a.records [] (r ∷ [])) (what ∙ ap Junk number) did)
     noted_so r (OfAnswer answer read what) did = noted_goes client bytes w' n' p p a.records (Replied (events past + 1) (events past + 1) answer) the_proxy refl refl (λ n c there. there) tt
         (λ m less. later_reply (events past + 1) m (events past + 1) answer less) (λ m less. earlier_reply m (events past + 1) answer less) (
@@ -503,13 +521,15 @@ module _ (forwards : ForwardsAreRead) (answers : AnswersAreRead) (s : Setup) (on
           tt,
         )
         (λ q asked. absurd (not_none (sym asked ∙ asked_now past (turn (Happens (event.Call client bytes)) at (Replied (events past + 1) (events past + 1) answer ∷ [])) bytes refl refl ∙ ap asked_in read)), tt)
+        (λ file. one_untold (turn (Happens (event.Call client bytes)) at (Replied (events past + 1) (events past + 1) answer ∷ []) ∷ past) file (events past + 1) (events past + 1) answer
+        (ap (tells_by file answer) (asked_now past (turn (Happens (event.Call client bytes)) at (Replied (events past + 1) (events past + 1) answer ∷ [])) bytes refl refl ∙ ap asked_in read)))
         (subst (λ r. Did 0 (begun w) nothing w' n' (Some (OfProxy p)) a.records [] (r ∷ [])) (what ∙ ap (λ k. Replied k k answer) number) did)
     noted_so r (OfEarly q read early what) did = noted_goes client bytes w' n' p p a.records (Early (events past + 1)) the_proxy refl refl (λ n c there. there) tt (λ m less. refl) (λ m less. refl)
         (drop_legal s past (turn (Happens (event.Call client bytes)) at (Early (events past + 1) ∷ [])) sound.tale refl, tt)
         (kept_by (Early (events past + 1)) tt (drops_itself (events past + 1)))
         (sym (ap option_list (due_is past (events past + 1) bytes (IsAsked q) alive read ∙ crowded_is past p (events past + 1) the_proxy.counted
         ∙ ap (λ b. if not b then Some (Early (events past + 1)) else if nat_le most_waiting (len p.pending) then Some (Full (events past + 1)) else None) early)))
-        (tt, tt) (tt, tt) (tt, tt)
+        (tt, tt) (tt, tt) (tt, tt) (λ file. refl)
         (subst (λ r. Did 0 (begun w) nothing w' n' (Some (OfProxy p)) a.records [] (r ∷ [])) (what ∙ ap Early number) did)
     noted_so r (OfFull q read welcomed full what) did = noted_goes client bytes w' n' p p a.records (Full (events past + 1)) the_proxy refl refl (λ n c there. there) tt (λ m less. refl) (λ m less. refl)
         (drop_legal s past (turn (Happens (event.Call client bytes)) at (Full (events past + 1) ∷ [])) sound.tale refl, tt)
@@ -517,7 +537,7 @@ module _ (forwards : ForwardsAreRead) (answers : AnswersAreRead) (s : Setup) (on
         (sym (ap option_list (due_is past (events past + 1) bytes (IsAsked q) alive read ∙ crowded_is past p (events past + 1) the_proxy.counted
         ∙ ap (λ b. if not b then Some (Early (events past + 1)) else if nat_le most_waiting (len p.pending) then Some (Full (events past + 1)) else None) welcomed
         ∙ ap (λ b. if b then Some (Full (events past + 1)) else None) full)))
-        (tt, tt) (tt, tt) (tt, tt)
+        (tt, tt) (tt, tt) (tt, tt) (λ file. refl)
         (subst (λ r. Did 0 (begun w) nothing w' n' (Some (OfProxy p)) a.records [] (r ∷ [])) (what ∙ ap Full number) did)
 
     refused_so : (object : List ℕ) (q : Asked) → IsIn p bytes object q
@@ -544,6 +564,9 @@ module _ (forwards : ForwardsAreRead) (answers : AnswersAreRead) (s : Setup) (on
           ),
           tt,
         )
+        (λ file. one_untold (turn (Happens (event.Call client bytes)) at (Replied (events past + 1) (events past + 1) answer ∷ []) ∷ past) file (events past + 1) (events past + 1) answer
+        (ap (tells_by file answer) (asked_now past (turn (Happens (event.Call client bytes)) at (Replied (events past + 1) (events past + 1) answer ∷ [])) bytes refl refl ∙ ap asked_in let_in.read)
+        ∙ tells_no_file answers s.volume q (handle_of object) (fit bytes object q byte_wise let_in.read let_in.asks).1 (fit bytes object q byte_wise let_in.read let_in.asks).0 let_in.procedure file))
         (subst (λ r. Did 0 (begun w) nothing w' n' (Some (OfProxy (record p { pending = remove p.pending (w.event + 1) }))) a.records [] (r ∷ []))
         (ap (λ k. Replied k k (answer_to q (reply.Getattr (look_by w.setup.volume (handle_of object))))) number
         ∙ ap (λ z. Replied (events past + 1) (events past + 1) (answer_to q (reply.Getattr (look_by z.volume (handle_of object))))) sound.setup) did)
@@ -583,6 +606,7 @@ module _ (forwards : ForwardsAreRead) (answers : AnswersAreRead) (s : Setup) (on
           licensed = (tt, tt);
           fenced = (tt, tt);
           wires = ((λ is. absurd (not_both is refl), tt), tt);
+          untold = λ file. refl;
         })
       where
         t : Turn
@@ -624,6 +648,8 @@ module _ (forwards : ForwardsAreRead) (answers : AnswersAreRead) (s : Setup) (on
           procedure = let_in.procedure;
           asks = let_in.asks;
           spelled = spelled;
+          fits = (fit bytes object q byte_wise let_in.read let_in.asks).0;
+          small = (fit bytes object q byte_wise let_in.read let_in.asks).1 h spelled;
           accepted = ap (λ o. was_dropped o (events past + 1)) (own_turn past t refl);
           unanswered = ap (λ b. b || false) (sound.tale.unanswered (events past + 1) (one_less (events past)));
           before = itself (events past + 1);
@@ -637,6 +663,7 @@ module _ (forwards : ForwardsAreRead) (answers : AnswersAreRead) (s : Setup) (on
           to = refl;
           tag = subst (λ tag. tag < next + 1) (sym the_proxy.tag) (one_less next);
           owned = its_owner p.next_tag the_proxy.tag;
+          says = λ r read. forwards w.setup p.next_tag bytes object q h byte_wise let_in.read let_in.asks spelled own r read;
         }
 
         calls : (n : ℕ) (c : Waiting) → get (insert p.pending (w.event + 1) last) n ≡ Some c → IsOut s (t ∷ past) (owned h) (next + 1) n c

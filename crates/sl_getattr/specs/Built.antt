@@ -1,4 +1,4 @@
--- The runs that this crate speaks of: they begin on empty disks, and no call but GETATTR comes.
+-- The runs that this crate speaks of: they begin on empty disks, no call but GETATTR comes, and no actor is started again.
 use Rattle.std.specs.Prelude.{◌≡◌, ℕ, List, [], ◌∷◌, Some}
 use Rattle.std.specs.FinMap as map
 use Rattle.sl_defs.specs.Histories.{Happening, Happens}
@@ -25,12 +25,11 @@ abbrev pub IsTaken : Datagram → Type 0
 IsTaken (IsAsked q) = IsGetattr q
 IsTaken other = Unit {0}
 
--- The volume is opened, time passes, such a datagram of bytes comes, or a frame is given. Nothing stops, and no frame is lost or
--- given twice.
+-- All but a start: each datagram is bytes, and no call but GETATTR. Frames are given, copied and lost, and actors tick, fail and
+-- stop; but who is down stays down.
 abbrev pub IsBuilt : Happening → Type 0
 IsBuilt (Happens (event.Call client bytes)) = AreBytes bytes × IsTaken (datagram bytes)
-IsBuilt (Happens (event.Give k)) = Unit {0}
-IsBuilt (Happens other) = ⊥
+IsBuilt (Happens (event.Start i)) = ⊥
 IsBuilt other = Unit {0}
 
 abbrev pub AreBuilt : History → Type 0

@@ -6,6 +6,7 @@ use Rattle.sl_history.specs.Turns.{History, datagram_of}
 use Rattle.sl_history.specs.Legal.{Legal}
 use Rattle.sl_history.specs.Fenced.{Fenced}
 use Rattle.sl_history.specs.Licensed.{Licensed, dropping, due_drop}
+use Rattle.sl_history.specs.Remembering.{Remembers}
 use Rattle.sl_history.specs.Wired.{Wired}
 use Rattle.sl_machine.specs.World.{World}
 use Rattle.sl_getattr.specs.Built.{AreBuilt, NewRun}
@@ -21,6 +22,9 @@ GetattrHistoriesAreFenced = (s : Setup) (h : History) (w : World) → s.dirs ≡
 
 abbrev pub GetattrHistoriesAreWired : Type 0
 GetattrHistoriesAreWired = (s : Setup) (h : History) (w : World) → s.dirs ≡ 1 → NewRun s h w → AreBuilt h → Wired s (fresh s.volume) h
+
+abbrev pub GetattrHistoriesRemember : Type 0
+GetattrHistoriesRemember = (s : Setup) (h : History) (w : World) → s.dirs ≡ 1 → NewRun s h w → AreBuilt h → Remembers h
 
 -- In each turn exactly a datagram that has to be dropped is, by the note that says why.
 abbrev pub DropsAreExact : History → Type 0

@@ -1,12 +1,13 @@
 //! Runs that open a new volume, and whose calls are all GETATTR: their histories are those of one NFS version 3 server.
 #![tactic(auto)]
 
-ghost use Rattle.sl_getattr.specs.Laws.{GetattrDropsAreExact, GetattrHistoriesAreFenced, GetattrHistoriesAreLegal, GetattrHistoriesAreLicensed, GetattrHistoriesAreWired};
+ghost use Rattle.sl_getattr.specs.Laws.{GetattrDropsAreExact, GetattrHistoriesAreFenced, GetattrHistoriesAreLegal, GetattrHistoriesAreLicensed, GetattrHistoriesAreWired, GetattrHistoriesRemember};
 
 use sl_edit::{call_xids_have_slots, handles_have_slots};
 
 /// Where a volume with one directory server is opened on empty disks, and no call but GETATTR comes, the history is legal:
-/// each reply is the one that one server gives (RFC 1813, section 3.3.1), no call has two, and nothing takes effect.
+/// each reply is the one that one server gives (RFC 1813, section 3.3.1), no call has two, and nothing takes effect. Frames may
+/// be lost and repeated, and disks and actors may fail and stop; but no actor is started again.
 ///
 /// A forwarded packet is the client's with another handle and xid, so this stands on what an edit of these leaves.
 pub fn getattr_histories_are_legal()
@@ -37,6 +38,14 @@ pub fn getattr_histories_are_fenced()
 /// Welcome or a packet answers the frame that is given in its turn.
 pub fn getattr_histories_are_wired()
     ensures { GetattrHistoriesAreWired }
+{
+    handles_have_slots();
+    call_xids_have_slots();
+}
+
+/// And it remembers: no reply tells a regular file's attributes, so that none is asked for again.
+pub fn getattr_histories_remember()
+    ensures { GetattrHistoriesRemember }
 {
     handles_have_slots();
     call_xids_have_slots();

@@ -1,5 +1,5 @@
 -- Events that are performed, and why one is not.
-use Rattle.std.proofs.Common.{◌≡◌, ℕ, List, [], ◌∷◌, ◌++◌, Option, Some, Result, Ok, Err, refl, sym, ap, subst}
+use Rattle.std.proofs.Common.{◌≡◌, ℕ, List, [], ◌∷◌, ◌++◌, Option, Some, Result, Ok, Err, refl, sym, ap, subst, ◌∙◌}
 use Rattle.std.specs.Prelude.{MatchResult}
 use Rattle.std.specs.Io.KnownBytes.{Appends, Keeps}
 use Rattle.sl_defs.specs.Schedules.{line_text}
@@ -45,7 +45,7 @@ module _ (v w : World) (e : Event) (text : List ℕ) (remarks : List Remark) (pa
   event_stops stop.WriteFault old new front = record {
     turns = turn v e remarks ∷ [];
     because = (turn v e remarks, refl, refl);
-    is = (w, follows past s.follows);
+    is = (w, stood_more v w e remarks past goes follows s);
     took = subst (TookFront old new) (turn_is text (turn v e remarks) spelled) front;
   }
   event_stops stop.Bad old new h = absurd h
@@ -90,12 +90,16 @@ no_line v e past known s = record { turns = []; because = refl; is = is_of v pas
 
 -- ---- the opening
 
-module _ (setup : Setup) (v : World) (text : List ℕ) (remarks : List Remark) (spelled : text ≡ line_text (line.Volume setup)) (follows : Follows v (opening setup remarks ∷ [])) where
-  pub opening_passes : v.proxy.setup ≡ setup → (old new : Option (List ℕ)) → Appends old new (ended text ++ remarks_text remarks) → Passes (line.Volume setup) [] v old new
-  opening_passes same old new wrote = record {
+module _ (setup : Setup) (v : World) (text : List ℕ) (remarks : List Remark) (spelled : text ≡ line_text (line.Volume setup)) (follows : Follows v (opening setup remarks ∷ []))
+    (same : v.proxy.setup ≡ setup) (one : setup.dirs ≡ 1) where
+  opened_stands : Stood v (opening setup remarks ∷ [])
+  opened_stands = record { follows = follows; volume = ap Some (sym same); one = ap (λ z. z.dirs) same ∙ one }
+
+  pub opening_passes : (old new : Option (List ℕ)) → Appends old new (ended text ++ remarks_text remarks) → Passes (line.Volume setup) [] v old new
+  opening_passes old new wrote = record {
     turns = opening setup remarks ∷ [];
     makes = (opening setup remarks, refl, refl);
-    stood = record { follows = follows; volume = ap Some (sym same) };
+    stood = opened_stands;
     took = subst (Appends old new) (turn_is text (opening setup remarks) spelled) wrote;
   }
 
@@ -103,7 +107,7 @@ module _ (setup : Setup) (v : World) (text : List ℕ) (remarks : List Remark) (
   opening_stops stop.WriteFault old new front = record {
     turns = opening setup remarks ∷ [];
     because = (opening setup remarks, refl, refl);
-    is = (v, follows);
+    is = (v, opened_stands);
     took = subst (TookFront old new) (turn_is text (opening setup remarks) spelled) front;
   }
   opening_stops stop.Bad old new h = absurd h
@@ -116,10 +120,10 @@ module _ (setup : Setup) (v : World) (text : List ℕ) (remarks : List Remark) (
   opening_stops stop.Spent old new h = absurd h
   opening_stops stop.NoMemory old new keeps = record { turns = []; because = refl; is = tt; took = kept old new keeps }
 
-  pub opening_done : v.proxy.setup ≡ setup → (r : Result Unit Stop) (old new : Option (List ℕ)) → WroteTurn r text remarks old new
+  pub opening_done : (r : Result Unit Stop) (old new : Option (List ℕ)) → WroteTurn r text remarks old new
       → MatchResult r (λ _. Passes (line.Volume setup) [] v old new) (λ why. Stops why (line.Volume setup) [] old new)
-  opening_done same (Ok done) old new wrote = opening_passes same old new wrote
-  opening_done same (Err why) old new h = opening_stops why old new h
+  opening_done (Ok done) old new wrote = opening_passes old new wrote
+  opening_done (Err why) old new h = opening_stops why old new h
 
 pub opening_fails : (why : WorldFault) (setup : Setup) (known : Option (List ℕ)) → GivesOpening setup (Err why) → Stops (stop_by why) (line.Volume setup) [] known known
 opening_fails (fault.UnknownFrame k) setup known h = absurd h

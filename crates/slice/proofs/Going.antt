@@ -19,7 +19,7 @@ use Rattle.slice.specs.declared.status.Status.TheVariants as status
 use Rattle.slice.specs.declared.status.Stop.{Stop}
 use Rattle.slice.specs.declared.status.Stop.TheVariants as stop
 use Rattle.slice.proofs.Texts.{text_more}
-use Rattle.slice.proofs.Histories.{is_of, answers}
+use Rattle.slice.proofs.Histories.{GetattrLaws, is_of, answers, claimed}
 use Rattle.slice.proofs.Events.{unwritten}
 use Rattle.slice.proofs.Steps.{appends_then, front_then}
 
@@ -119,51 +119,57 @@ module _ (source text : List ℕ) (left : List (List ℕ)) (passed : List Passag
     history_is = refl;
   }
 
-  pub stops_here : (why : Stop) → StopsText why text (history_of passed) now new → Performs (status_at why k) source old new
-  stops_here stop.WriteFault s = record {
+  pub stops_here : GetattrLaws → (why : Stop) → StopsText why text (history_of passed) now new → Performs (status_at why k) source old new
+  stops_here laws stop.WriteFault s = record {
     history = s.turns ++ history_of passed;
     is = s.is;
     answers = answers (s.turns ++ history_of passed) s.is;
+    claimed = claimed laws (s.turns ++ history_of passed) s.is;
     ends = (k, stops_at stop.WriteFault s);
     took = front_more s.turns s.took;
   }
-  stops_here stop.Bad s = record {
+  stops_here laws stop.Bad s = record {
     history = s.turns ++ history_of passed;
     is = s.is;
     answers = answers (s.turns ++ history_of passed) s.is;
+    claimed = claimed laws (s.turns ++ history_of passed) s.is;
     ends = stops_at stop.Bad s;
     took = took_more s.turns s.took;
   }
-  stops_here stop.Unbuilt s = record {
+  stops_here laws stop.Unbuilt s = record {
     history = s.turns ++ history_of passed;
     is = s.is;
     answers = answers (s.turns ++ history_of passed) s.is;
+    claimed = claimed laws (s.turns ++ history_of passed) s.is;
     ends = stops_at stop.Unbuilt s;
     took = took_more s.turns s.took;
   }
-  stops_here stop.Spent s = record {
+  stops_here laws stop.Spent s = record {
     history = s.turns ++ history_of passed;
     is = s.is;
     answers = answers (s.turns ++ history_of passed) s.is;
+    claimed = claimed laws (s.turns ++ history_of passed) s.is;
     ends = (k, stops_at stop.Spent s);
     took = took_more s.turns s.took;
   }
-  stops_here stop.NoMemory s = record {
+  stops_here laws stop.NoMemory s = record {
     history = s.turns ++ history_of passed;
     is = s.is;
     answers = answers (s.turns ++ history_of passed) s.is;
+    claimed = claimed laws (s.turns ++ history_of passed) s.is;
     ends = (k, stops_at stop.NoMemory s);
     took = took_more s.turns s.took;
   }
 
-pub stops_first : (why : Stop) (source text : List ℕ) (left : List (List ℕ)) (old new : Option (List ℕ)) → lines source ≡ text ∷ left → StopsText why text [] old new → Performs (status_at why 1) source old new
-stops_first why source text left old new e s = stops_here source text left [] tt e 1 refl old old new (unwritten old) why s
+pub stops_first : GetattrLaws → (why : Stop) (source text : List ℕ) (left : List (List ℕ)) (old new : Option (List ℕ)) → lines source ≡ text ∷ left → StopsText why text [] old new → Performs (status_at why 1) source old new
+stops_first laws why source text left old new e s = stops_here source text left [] tt e 1 refl old old new (unwritten old) laws why s
 
-pub ends_here : (source : List ℕ) (v : World) (k : ℕ) (old now : Option (List ℕ)) → Sofar source v [] k old now → Performs status.Done source old now
-ends_here source v k old now so = record {
+pub ends_here : GetattrLaws → (source : List ℕ) (v : World) (k : ℕ) (old now : Option (List ℕ)) → Sofar source v [] k old now → Performs status.Done source old now
+ends_here laws source v k old now so = record {
   history = history_of so.passed;
   is = is_of v (history_of so.passed) so.stood;
   answers = answers (history_of so.passed) (is_of v (history_of so.passed) so.stood);
+  claimed = claimed laws (history_of so.passed) (is_of v (history_of so.passed) so.stood);
   ends = record { passed = so.passed; passages = so.passages; lines_are = so.lines_are ∙ append-nil (texts_of so.passed); history_is = refl };
   took = so.took;
 }

@@ -6,6 +6,13 @@ use Rattle.sl_defs.specs.Histories.{ended, history_text}
 use Rattle.sl_defs.specs.declared.setup.Setup.{Setup}
 use Rattle.sl_defs.specs.declared.event.Line.{Line}
 use Rattle.sl_defs.specs.declared.event.Line.TheVariants as line
+use Rattle.sl_model.specs.Perform.{fresh}
+use Rattle.sl_history.specs.Legal.{Legal}
+use Rattle.sl_history.specs.Licensed.{Licensed}
+use Rattle.sl_history.specs.Wired.{Wired}
+use Rattle.sl_history.specs.Fenced.{Fenced}
+use Rattle.sl_history.specs.Remembering.{Remembers}
+use Rattle.sl_getattr.specs.Built.{AreBuilt}
 use Rattle.sl_history.specs.Turns.{Remark, History, transcript_of}
 use Rattle.sl_past.specs.Transcripts.{volume_of, remarks_text}
 use Rattle.sl_world.specs.declared.world.World.{World}
@@ -95,17 +102,39 @@ abbrev pub Took : Status → Option (List ℕ) → Option (List ℕ) → List �
 Took WriteFault old new text = TookFront old new text
 Took _ old new text = Appends old new text
 
--- nothing happened, or this is what happened in a run of the machine to a world
+-- The world has this history: it has a run of the machine from empty disks to what the world stands for. Its volume is
+-- known, and has one directory server.
+pub record Stood (v : World) (h : History) : Type 0 where
+  pub follows : Follows v h
+  pub volume : volume_of h ≡ Some v.proxy.setup
+  pub one : v.proxy.setup.dirs ≡ 1
+
+-- nothing happened, or this is the history of a world
 abbrev pub IsHistory : History → Type 0
 IsHistory [] = Unit {0}
-IsHistory (t ∷ past) = (v : World) × Follows v (t ∷ past)
+IsHistory (t ∷ past) = (v : World) × Stood v (t ∷ past)
+
+-- The history of a volume that was new keeps what is claimed: it is that of one server, drops, flushes and keeps what it may,
+-- its frames, servers and fences play their parts, and what was told isn't asked for again.
+pub record KeepsClaims (s : Setup) (h : History) : Type 0 where
+  pub legal : Legal (fresh s.volume) h
+  pub licensed : Licensed (fresh s.volume) h
+  pub wired : Wired s (fresh s.volume) h
+  pub fenced : Fenced h
+  pub remembers : Remembers h
+
+-- Where each datagram that is a call is a GETATTR, or is answered whatever the server holds, it keeps the claims.
+abbrev pub IsClaimed : History → Type 0
+IsClaimed h = (s : Setup) → volume_of h ≡ Some s → AreBuilt h → KeepsClaims s h
 
 -- Lines of the source were performed, each in its place: what happened is a history of the machine, in which each datagram
--- that needs no server is answered at once, and the sink took its transcript.
+-- that needs no server is answered at once, and which keeps what is claimed where no call but GETATTR came. The sink took its
+-- transcript.
 pub record Performs (outcome : Status) (source : List ℕ) (old new : Option (List ℕ)) : Type 0 where
   pub history : History
   pub is : IsHistory history
   pub answers : AnswersAtOnce history
+  pub claimed : IsClaimed history
   pub ends : Ends outcome source history
   pub took : Took outcome old new (history_text (transcript_of history))
 
@@ -184,11 +213,6 @@ IsRun BadWords left_old left_new held_old held_new = Keeps left_old left_new × 
 -- the text of these turns
 abbrev pub text_of : History → List ℕ
 text_of h = history_text (transcript_of h)
-
--- the world has this history, and its volume is known
-pub record Stood (v : World) (h : History) : Type 0 where
-  pub follows : Follows v h
-  pub volume : volume_of h ≡ Some v.proxy.setup
 
 -- what the sink took of a text, at such a stop
 abbrev pub TookAt : Stop → Option (List ℕ) → Option (List ℕ) → List ℕ → Type 0

@@ -13,6 +13,10 @@ use crate::lines::{cut_line, without_end};
 use crate::printing::{give_text, have_texts, turn_text};
 use crate::sink::{Sink, SinkError};
 use crate::status::{Status, Stop};
+use sl_getattr::{
+    getattr_histories_are_fenced, getattr_histories_are_legal, getattr_histories_are_licensed,
+    getattr_histories_are_wired, getattr_histories_remember,
+};
 use sl_past::Remark;
 use sl_sched::{Event, Line, read_line};
 use sl_types::{LineFault, Setup};
@@ -179,6 +183,11 @@ pub fn perform<K: Sink>(alloc: Global, source: &[u8], sink: &mut K) -> Status
     ensures later { K.faults sink.old ≤ K.faults sink.new }
     ensures fault { result ≡ Status.WriteFault → Rose (K.faults sink.old) (K.faults sink.new) }
 {
+    getattr_histories_are_legal();
+    getattr_histories_are_licensed();
+    getattr_histories_are_wired();
+    getattr_histories_are_fenced();
+    getattr_histories_remember();
     let (first, mut rest) = cut_line(without_end(source));
     let mut world = match perform_first(alloc, first, sink) {
         Ok(world) => world,

@@ -10,7 +10,7 @@ returns-in-Ok-write_turn-clause-done g c =
     let old = g.K.Sink.holds c.args.sink.now in
     let new = g.K.Sink.holds c.write_turn.new.sink in
     let wrote = subst (λ rs. WroteTurn c.write_turn.result c.args.text.now rs old new) c.as_slice.ensures c.write_turn.ensures.wrote in
-    let done = opening_done c.args.setup.now c.in-Ok.world c.args.text.now c.in-Ok.notes c.requires c.in-Ok.ensures.follows (ap (λ w. w.proxy.setup) c.in-Ok.ensures.gives.1) c.write_turn.result old new wrote in
+    let done = opening_done c.args.setup.now c.in-Ok.world c.args.text.now c.in-Ok.notes c.requires c.in-Ok.ensures.follows (ap (λ w. w.proxy.setup) c.in-Ok.ensures.gives.1) c.in-Ok.ensures.gives.0.one c.write_turn.result old new wrote in
     subst (λ r. MatchResult r (λ u. Passes (line.Volume c.args.setup.now) [] c.in-Ok.world old new) (λ why. Stops why (line.Volume c.args.setup.now) [] old new)) c.in-Ok-write_turn.is done
 
 pub returns-in-Err-write_turn-clause-done : goal.returns-in-Err-write_turn-clause-done
@@ -18,7 +18,7 @@ returns-in-Err-write_turn-clause-done g c =
     let old = g.K.Sink.holds c.args.sink.now in
     let new = g.K.Sink.holds c.write_turn.new.sink in
     let wrote = subst (λ rs. WroteTurn c.write_turn.result c.args.text.now rs old new) c.as_slice.ensures c.write_turn.ensures.wrote in
-    let done = opening_done c.args.setup.now c.in-Ok.world c.args.text.now c.in-Ok.notes c.requires c.in-Ok.ensures.follows (ap (λ w. w.proxy.setup) c.in-Ok.ensures.gives.1) c.write_turn.result old new wrote in
+    let done = opening_done c.args.setup.now c.in-Ok.world c.args.text.now c.in-Ok.notes c.requires c.in-Ok.ensures.follows (ap (λ w. w.proxy.setup) c.in-Ok.ensures.gives.1) c.in-Ok.ensures.gives.0.one c.write_turn.result old new wrote in
     subst (λ r. MatchResult r (λ u. Passes (line.Volume c.args.setup.now) [] c.in-Ok.world old new) (λ why. Stops why (line.Volume c.args.setup.now) [] old new)) c.in-Err-write_turn.is done
 
 pub returns-in-Err-clause-done : goal.returns-in-Err-clause-done
