@@ -1,0 +1,10 @@
+mod Beginning
+mod Deciding
+mod Effecting
+mod Noting
+mod Opening
+mod Replied
+mod Replying
+mod Stepping
+mod Taking
+mod Turning

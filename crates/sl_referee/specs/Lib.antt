@@ -1,0 +1,5 @@
+pub mod Cases
+pub mod Decisions
+pub mod Dockets
+pub mod Notes
+pub mod Stops
