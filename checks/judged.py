@@ -88,7 +88,7 @@ def schedule(seed):
             welcome = []
         data = getattr(source, volume) if source.random() < 0.6 else datagram(source)
         lines.append(f"call {source.choice([0, 1, 4294967295])} {data.hex() or '-'}")
-        if source.random() < 0.3:
+        if not welcome and source.random() < 0.3:
             lines.append(f"flow {source.choice([1, 1, 2, 3, 1000000])}")
     return "\n".join(lines) + "\n"
 
