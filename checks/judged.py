@@ -1,6 +1,7 @@
 """Random schedules of datagrams that need no server, GETATTR calls, and frames given in any order, replayed and judged.
 
 Use: judged.py JUDGE COUNT. The judge must find each transcript legal, licensed and wired."""
+import glob
 import random
 import re
 import subprocess
@@ -109,6 +110,13 @@ def shuffled(transcript, seed):
     return "\n".join(lines + [f"give {k}" for k in order]) + "\n", len(flying)
 
 
+def missed(judge, name, path):
+    """What the judge doesn't find of a transcript, or nothing."""
+    said = subprocess.run([sys.executable, judge, path], capture_output=True, text=True).stdout
+    wrong = [w for w in ("legal", "licensed", "wired") if not re.search(rf"^{w} ok$", said, re.M)]
+    return f"{name}: not {', '.join(wrong)}\n{said}" if wrong else None
+
+
 def judged(judge, seed):
     """What is wrong with the transcript of a seed's schedule, or nothing. Frames that are in flight at its end are given in
     any order, twice: those that were sent, and their answers."""
@@ -123,18 +131,18 @@ def judged(judge, seed):
     with tempfile.NamedTemporaryFile(suffix=".transcript") as file:
         file.write(run.stdout)
         file.flush()
-        said = subprocess.run([sys.executable, judge, file.name], capture_output=True, text=True).stdout
-    wrong = [w for w in ("legal", "licensed", "wired") if not re.search(rf"^{w} ok$", said, re.M)]
-    return f"seed {seed}: not {', '.join(wrong)}\n{said}" if wrong else None
+        return missed(judge, f"seed {seed}", file.name)
 
 
 def main():
     judge, count = sys.argv[1], int(sys.argv[2])
     subprocess.run(["bin/slice", "replay"], input=b"", capture_output=True)
     with ThreadPoolExecutor(2) as pool:
-        wrong = [w for w in pool.map(lambda seed: judged(judge, seed), range(count)) if w]
+        found = list(pool.map(lambda seed: judged(judge, seed), range(count)))
+    found += [missed(judge, path, path) for path in sorted(glob.glob("examples/*.transcript"))]
+    wrong = [w for w in found if w]
     print("\n".join(wrong[:5]))
-    print(f"{count - len(wrong)} passed, {len(wrong)} failed")
+    print(f"{len(found) - len(wrong)} passed, {len(wrong)} failed")
     return 1 if wrong else 0
 
 
