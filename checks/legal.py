@@ -2,7 +2,7 @@
 
 Use: legal.py JUDGE SIMULATOR COUNT REFEREE. The simulator performs its own schedules and COUNT random ones, of every mood. Each
 transcript and changed copies of it are judged; where the judge finds a fault of legality, the referee must say `illegal`,
-and `legal` where it finds none. A copy that breaks the grammar of transcripts is left out."""
+and `legal` where it finds none. No change breaks the grammar of transcripts."""
 import os
 import random
 import re
@@ -97,13 +97,9 @@ def variants(text, source):
 
 
 def expected(judge, path):
-    """What the referee has to say, or nothing where the judge finds that the text is none of the grammar."""
+    """What the referee has to say, and what the judge has said."""
     said = subprocess.run([sys.executable, judge, "--legal-only", path], capture_output=True, text=True).stdout
-    codes = re.findall(r"\b(D6|D3|D18|D19)\b[^\n]*", said)
-    faults = [line for line in said.split("\n") if re.search(r"\bD(6|3)\b|\bD6\.", line) or "KEPT" in line]
-    if faults:
-        return "illegal", said
-    return (None if codes else "legal"), said
+    return ("legal" if re.search(r"^legal ok$", said, re.M) else "illegal"), said
 
 
 def transcripts(simulator, count):
@@ -127,9 +123,6 @@ def judged(task):
             file.write(text)
             file.flush()
             due, said = expected(judge, file.name)
-        if due is None:
-            counts["no transcript"] += 1
-            continue
         got = subprocess.run([referee], input=text.encode(), capture_output=True).stdout.decode().strip()
         counts[f"{change}: {due}"] += 1
         if got != due:

@@ -81,8 +81,7 @@ pub fn run<S: Source, K: Sink>(
     source: &mut S,
     sink: &mut K,
 ) -> Status
-    // By the status: what the source gave, which of its lines were performed, and the legal history whose text the
-    // sink took.
+    // By the status: what the source gave, which of its lines were performed, and the history whose text the sink took.
     ensures run { IsRun result (S.left source.old) (S.left source.new) (K.holds sink.old) (K.holds sink.new) }
     ensures words { (result ≡ Status.BadWords) ↔ (IsReplay words.now → ⊥) }
     ensures read_fault { result ≡ Status.ReadFault → Rose (S.faults source.old) (S.faults source.new) }
