@@ -38,7 +38,7 @@ harmless_frames k (f ∷ fs) each = (each.0, harmless_frames (k + 1) fs each.1)
 pub harmless_licensed : (start : Volume) (past : History) (t : Turn) (before rs : List Remark) → AreHarmless rs → AllMayBeNoted start t past before rs
 harmless_licensed start past t before [] harmless = tt
 harmless_licensed start past t before (Sent k f ∷ rs) harmless =
-    (subst (IsRequestedIf start (so_far t before ∷ past) f) (sym harmless.0) tt, harmless_licensed start past t (before ++ Sent k f ∷ []) rs harmless.1)
+    (subst (IsRequestedIf start (so_far t before ∷ past) (t ∷ past) f) (sym harmless.0) tt, harmless_licensed start past t (before ++ Sent k f ∷ []) rs harmless.1)
 harmless_licensed start past t before (Did n at choice ∷ rs) harmless = absurd harmless
 harmless_licensed start past t before (Flush f ∷ rs) harmless = absurd harmless
 harmless_licensed start past t before (Verf v ∷ rs) harmless = absurd harmless

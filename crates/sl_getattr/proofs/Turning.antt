@@ -39,8 +39,8 @@ use Rattle.sl_getattr.proofs.Maps.{of_put, Put, IsNew, WasThere, of_removal}
 use Rattle.sl_getattr.proofs.Looking.{look_by}
 use Rattle.sl_getattr.proofs.Sound.{IsBare, Tale, Owner, AsksFor, IsOut, IsProxy, Forwards, IsFine, IsWelcome, IsForward, IsPacket, IsSound, Sound}
 use Rattle.sl_getattr.proofs.Tales.{HasNoEffect, IsPlain, no_effect, no_reply, plain_drops, plain_both, plain_frames, plain_legal, drop_legal, answer_legal, at_once_legal, refusal_legal, own_turn, same_turn, still_out}
-use Rattle.sl_history.specs.Remembering.{tells_by, tells_among}
-use Rattle.sl_getattr.proofs.Remembering.{AnswersAreRead, tells_no_file, plain_untold, one_untold}
+use Rattle.sl_history.specs.Remembering.{tells_by}
+use Rattle.sl_getattr.proofs.Remembering.{AnswersAreRead, tells_no_file, told_among, plain_untold, one_untold}
 use Rattle.sl_getattr.proofs.Wiring.{AllWire, TellsNothing, IsAnswering, wire_both, frames_wire, downs_wire}
 use Rattle.sl_history.specs.Wired.{is_answer, fits}
 use Rattle.sl_history.specs.Frames.{IsGivenIn}
@@ -80,7 +80,7 @@ pub record Went (s : Setup) (past : History) (t : Turn) (w' : World) : Type 0 wh
   pub licensed : licensed.AllMayBeNoted (fresh s.volume) t past [] t.remarks
   pub fenced : fenced.AllMayBeNoted t past [] t.remarks
   pub wires : AllWire past t t.remarks
-  pub untold : (file : ℕ) → tells_among (t ∷ past) file t.remarks ≡ false
+  pub untold : (file : ℕ) → told_among (t ∷ past) file t.remarks ≡ false
 
 abbrev pub turn : Happening → Time → List Remark → Turn
 turn x at rs = record { happening = x; moment = at; remarks = rs }
@@ -439,7 +439,7 @@ module _ (forwards : ForwardsAreRead) (answers : AnswersAreRead) (fit : CallsFit
       → licensed.AllMayBeNoted (fresh s.volume) (turn (Happens (event.Call client bytes)) at (r ∷ [])) past [] (r ∷ [])
       → fenced.AllMayBeNoted (turn (Happens (event.Call client bytes)) at (r ∷ [])) past [] (r ∷ [])
       → AllWire past (turn (Happens (event.Call client bytes)) at (r ∷ [])) (r ∷ [])
-      → ((file : ℕ) → tells_among (turn (Happens (event.Call client bytes)) at (r ∷ []) ∷ past) file (r ∷ []) ≡ false)
+      → ((file : ℕ) → told_among (turn (Happens (event.Call client bytes)) at (r ∷ []) ∷ past) file (r ∷ []) ≡ false)
       → Did 0 (begun w) nothing w' n' (Some (OfProxy q)) rs [] (r ∷ []) → Went s past (turn (Happens (event.Call client bytes)) at (remarks_of n')) w'
   noted_goes client bytes w' n' p q rs r proxy soft tag calls none ahead behind legal counted drops may still wires untold did =
       subst (λ rs. Went s past (turn (Happens (event.Call client bytes)) at rs) w') (sym (remarks_are 0 (begun w) w' n' _ _ _ _ did)) (record {

@@ -9,3 +9,4 @@ pub mod Wired
 pub mod Fenced
 pub mod Completing
 pub mod Remembering
+pub mod Deciding

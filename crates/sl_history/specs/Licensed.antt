@@ -174,7 +174,7 @@ abbrev pub flushes_for : Volume → ℕ → Option Asked → Bool
 flushes_for v f None = false
 flushes_for v f (Some a) = (is_changing a.call || is_commit a.call) && (is_in f (kept_alone v a.call) && is_due v f a.call)
 
--- A flush is asked for only for a call that keeps the file, which has unstable writes then.
+-- A flush is asked for only for a call that keeps the file, which has unstable writes as that event ends.
 pub record IsFlushRequest (start : Volume) (h : History) (arrival f : ℕ) : Type 0 where
   pub unstable : is_unstable f (volume_after start h).unstable ≡ true
   pub call : flushes_for (volume_after start h) f (asked h arrival) ≡ true
@@ -192,9 +192,10 @@ unfoldable pub was_sent : History → ℕ → Frame → Bool
 was_sent [] file f = false
 was_sent (t ∷ past) file f = was_sent past file f || again_among file f t.remarks
 
-abbrev pub IsRequestedIf : Volume → History → Frame → Option ℕ → Type 0
-IsRequestedIf start h f None = Unit {0}
-IsRequestedIf start h f (Some file) = was_sent h file f ≡ false → IsFlushRequest start h f.arrival file
+-- A sent frame stands before all that is noted of its event. So whether a flush may be asked for is judged as the event ends.
+abbrev pub IsRequestedIf : Volume → History → History → Frame → Option ℕ → Type 0
+IsRequestedIf start h ended f None = Unit {0}
+IsRequestedIf start h ended f (Some file) = was_sent h file f ≡ false → IsFlushRequest start ended f.arrival file
 
 -- ---- files with unstable writes, as the proxy sees them
 
@@ -302,17 +303,17 @@ abbrev pub IsLicensedEffectIf : Volume → History → ℕ → Time → Choice �
 IsLicensedEffectIf start h n at choice None = ⊥
 IsLicensedEffectIf start h n at choice (Some a) = IsLicensedEffect start h n at choice a
 
--- What may be noted next. In h the newest turn has only the notes before this one.
-abbrev pub MayNote : Volume → History → Remark → Type 0
-MayNote start h (Verf v) = IsRenewal start h v
-MayNote start h (Flush f) = IsFlush start h f
-MayNote start h (Did n at choice) = IsLicensedEffectIf start h n at choice (asked h n)
-MayNote start h (Sent k f) = IsRequestedIf start h f (flush_in f.body)
-MayNote start h other = Unit {0}
+-- What may be noted next. In h the newest turn has only the notes before this one, and in ended all of its notes.
+abbrev pub MayNote : Volume → History → History → Remark → Type 0
+MayNote start h ended (Verf v) = IsRenewal start h v
+MayNote start h ended (Flush f) = IsFlush start h f
+MayNote start h ended (Did n at choice) = IsLicensedEffectIf start h n at choice (asked h n)
+MayNote start h ended (Sent k f) = IsRequestedIf start h ended f (flush_in f.body)
+MayNote start h ended other = Unit {0}
 
 abbrev pub AllMayBeNoted : Volume → Turn → History → List Remark → List Remark → Type 0
 AllMayBeNoted start t past before [] = Unit {0}
-AllMayBeNoted start t past before (r ∷ rs) = MayNote start (so_far t before ∷ past) r × AllMayBeNoted start t past (before ++ r ∷ []) rs
+AllMayBeNoted start t past before (r ∷ rs) = MayNote start (so_far t before ∷ past) (t ∷ past) r × AllMayBeNoted start t past (before ++ r ∷ []) rs
 
 -- ---- what is dropped
 

@@ -37,17 +37,7 @@ abbrev pub tells_by : ℕ → List ℕ → Option Asked → Bool
 tells_by f bytes None = false
 tells_by f bytes (Some a) = is_file f (option_and_then attributes_in (results_of a.procedure bytes))
 
-abbrev pub tells_among : History → ℕ → List Remark → Bool
-tells_among h f [] = false
-tells_among h f (Replied n e bytes ∷ rs) = tells_by f bytes (asked h n) || tells_among h f rs
-tells_among h f (r ∷ rs) = tells_among h f rs
-
--- in event e a reply told the attributes of this regular file
-unfoldable pub tells : History → ℕ → ℕ → Bool
-tells [] e f = false
-tells (t ∷ past) e f = if events (t ∷ past) == e then tells_among (t ∷ past) f t.remarks || tells past e f else tells past e f
-
--- ---- nothing came in between that may change it
+-- ---- what makes the proxy forget them
 
 abbrev pub may_change : Call → Bool
 may_change c = is_changing c || is_commit c
@@ -65,6 +55,20 @@ forgets (Verf v) = true
 forgets (Flush f) = true
 forgets other = false
 
+-- A reply of this turn told the attributes of this regular file, while no call but n waited that may change something; and
+-- behind it no write verifier and no flush is noted.
+abbrev pub tells_among : Turn → History → ℕ → ℕ → List Remark → List Remark → Bool
+tells_among t past n f before [] = false
+tells_among t past n f before (Replied m e bytes ∷ rs) =
+    (tells_by f bytes (asked (t ∷ past) m) && (is_idle (so_far t before ∷ past) n && not (list_any forgets rs)))
+    || tells_among t past n f (before ++ Replied m e bytes ∷ []) rs
+tells_among t past n f before (r ∷ rs) = tells_among t past n f (before ++ r ∷ []) rs
+
+-- that is so in event e
+unfoldable pub tells : History → ℕ → ℕ → ℕ → Bool
+tells [] n e f = false
+tells (t ∷ past) n e f = if events (t ∷ past) == e then tells_among t past n f [] t.remarks || tells past n e f else tells past n e f
+
 -- a call that isn't dropped comes, is not n, and may change something
 abbrev pub comes : History → Turn → ℕ → Bool
 comes past t n = list_any (λ m. not (m == n) && changes_by (asked_by t)) (arrives (events (t ∷ past)) t (asked_by t))
@@ -73,11 +77,11 @@ abbrev pub is_datagram : Happening → Bool
 is_datagram (Happens (event.Call client bytes)) = true
 is_datagram other = false
 
--- since event e no write verifier, no flush and no other call that may change something; and no such call waited then
+-- behind event e no write verifier, no flush and no other call that may change something
 unfoldable pub is_calm : History → ℕ → ℕ → Bool
-is_calm [] e n = false
+is_calm [] e n = true
 is_calm (t ∷ past) e n =
-    if nat_le (events (t ∷ past)) e then is_idle (t ∷ past) n
+    if nat_le (events (t ∷ past)) e then true
     else is_calm past e n && (not (list_any forgets t.remarks) && not (comes past t n))
 
 unfoldable pub datagrams_since : History → ℕ → ℕ
@@ -125,7 +129,7 @@ asks_again_by f b (Some a) = asks_again f b a.call
 
 -- The file's attributes were told in an event before the call came, and the proxy still has them.
 pub record IsKnown (h : History) (n e f : ℕ) : Type 0 where
-  pub told : tells h e f ≡ true
+  pub told : tells h n e f ≡ true
   pub before : e < n
   pub calm : is_calm h e n ≡ true
   pub few : datagrams_since h e < most_datagrams

@@ -1,5 +1,5 @@
 -- Histories of the whole ensemble, the newest turn first, and their printed text.
-use Rattle.std.specs.Prelude.{ℕ, ◌+◌, ◌==◌, List, [], ◌∷◌, Option, Some, None, Bool, ◌&&◌, map, if◌then◌else◌}
+use Rattle.std.specs.Prelude.{ℕ, ◌+◌, ◌==◌, List, [], ◌∷◌, ◌++◌, Option, Some, None, Bool, ◌&&◌, map, if◌then◌else◌}
 use Rattle.sl_defs.specs.Histories.{Happening, Opens, Reaches, Happens, event_count}
 use Rattle.sl_defs.specs.Histories as defs
 use Rattle.sl_defs.specs.declared.setup.Time.{Time}
@@ -70,6 +70,15 @@ events (t ∷ past) = events past + event_count t.happening
 -- the turn stopped before its next note: only these are noted yet
 abbrev pub so_far : Turn → List Remark → Turn
 so_far t remarks = record t { remarks = remarks }
+
+-- the history with a turn of which nothing is noted yet
+abbrev pub begun : History → Happening → Time → History
+begun past happening moment = record { happening = happening; moment = moment; remarks = [] } ∷ past
+
+-- the history with one remark more of its newest turn
+abbrev pub noted : History → Remark → History
+noted [] r = []
+noted (t ∷ past) r = so_far t (t.remarks ++ r ∷ []) ∷ past
 
 -- the datagram that a happening brings
 abbrev pub datagram_of : Happening → Option (List ℕ)

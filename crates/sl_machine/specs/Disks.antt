@@ -1,5 +1,5 @@
 -- What the disks of an ensemble hold of a volume, at rest and at every moment.
-use Rattle.std.specs.Prelude.{◌≡◌, ℕ, ◌/◌, ◌^◌, ◌==◌, ◌<◌, ◌≤◌, List, [], Option, Some, None, Bool, true, false, not, ◌&&◌, Contains, if◌then◌else◌}
+use Rattle.std.specs.Prelude.{◌≡◌, ℕ, ◌/◌, ◌^◌, ◌==◌, ◌<◌, ◌≤◌, List, [], Option, Some, None, Bool, true, false, not, ◌&&◌, Contains, if◌then◌else◌, ◌⊎◌}
 use Rattle.std.specs.Option.{unwrap_or}
 use Rattle.std.specs.FinMap as map
 use Rattle.sl_defs.specs.declared.setup.Setup.{Setup}
@@ -139,12 +139,34 @@ AboveFinished op (OfDir (dir.Finish n applied)) = n < op
 AboveFinished op (OfData (store.Finish n applied)) = n < op
 AboveFinished op other = Unit {0}
 
+-- the record of a Lock of this operation, and of its Finish
+abbrev pub IsLockOf : ℕ → Record → Type 0
+IsLockOf op (OfDir (dir.Lock n fence w)) = n ≡ op
+IsLockOf op (OfData (store.Lock n fence w)) = n ≡ op
+IsLockOf op other = ⊥
+
+abbrev pub IsFinishOf : ℕ → Record → Type 0
+IsFinishOf op (OfDir (dir.Finish n applied)) = n ≡ op
+IsFinishOf op (OfData (store.Finish n applied)) = n ≡ op
+IsFinishOf op other = ⊥
+
+pub record IsFinished (records : List Record) (op : ℕ) : Type 0 where
+  pub finish : Record
+  pub there : Contains records finish
+  pub is : IsFinishOf op finish
+
+abbrev pub IsLockedFor : ℕ → Option Held → Type 0
+IsLockedFor op None = ⊥
+IsLockedFor op (Some h) = h.op ≡ op
+
 -- What holds of the disks at every moment, for a volume: a stop loses nothing that was noted, and leaves no operation
 -- half done that can't be finished.
 pub record Sound (s : Setup) (v : Volume) (disks : Disks) : Type 0 where
   pub tree : Tree v
   pub lies : Lies s v disks
   pub locked : (i : ℕ) (h : Held) → locked_in (disks i) ≡ Some h → IsOngoing disks i h
+  -- a Lock without its Finish is the server's only one
+  pub only : (i op : ℕ) (r : Record) → Contains (disks i) r → IsLockOf op r → IsFinished (disks i) op ⊎ IsLockedFor op (locked_in (disks i))
   pub above : (i : ℕ) (h : Held) (r : Record) → locked_in (disks i) ≡ Some h → Contains (disks i) r → AboveFinished h.op r
   pub decided : (started : Started) (p : Part) → Contains (started_of (disks 1)) started → decision_of (disks 1) started.op ≡ Some true → Contains started.intent.parts p → HasPart disks p.actor started.op
   pub numbers : (i : ℕ) (r : Record) → Contains (disks i) r → NamesBelow (next_op (disks 1)) r

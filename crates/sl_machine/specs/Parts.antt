@@ -95,9 +95,10 @@ pub record Going : Type 0 where
   pub to : ℕ
   pub whole : Bool
 
+-- an empty file has no bytes that go
 abbrev pub dropped_file : ℕ → Option Node → List Going
 dropped_file f None = []
-dropped_file f (Some n) = if is_reg n.kind then record { fileid = f; from = 0; to = n.size; whole = true } ∷ [] else []
+dropped_file f (Some n) = if is_reg n.kind && nat_lt 0 n.size then record { fileid = f; from = 0; to = n.size; whole = true } ∷ [] else []
 
 abbrev pub shortened : ℕ → Option Node → Node → List Going
 shortened f None after = []

@@ -220,9 +220,13 @@ abbrev pub above_ids : ℕ → List ℕ → ℕ
 above_ids site [] = 1
 above_ids site (f ∷ fs) = if site_of f == site then max (counter_of f + 1) (above_ids site fs) else above_ids site fs
 
--- The next counter of a site: above all that were given out, from 1 on.
+-- the root's number is given out before any record is there
+abbrev pub first_counter : ℕ → ℕ
+first_counter site = if site == 0 then 2 else 1
+
+-- The next counter of a site: above the root's and all that were given out, from 1 on.
 unfoldable pub next_counter : ℕ → List Record → ℕ
-next_counter site [] = 1
+next_counter site [] = first_counter site
 next_counter site (r ∷ rs) = max (above_ids site (ids_in r)) (next_counter site rs)
 
 -- so many objects a site may have

@@ -45,7 +45,7 @@ write_licensed = record {
 
 -- ---- the flush
 
-pub flush_is_for_commit : IsFlushRequest start (turn (event.Call 0 (commit_call 9 0)) [] ∷ buffered) 15 2
+pub flush_is_for_commit : IsFlushRequest start (turn (event.Call 0 (commit_call 9 0)) (Sent 13 (flush 15) ∷ []) ∷ buffered) 15 2
 unfolding turn_of volume_after asked datagram call_header_at u32_text u64_text u32_at u64_at opaque_at auth_at zero_at refusal_of args_at fh_at bytes_at form_text create_at commit_at dir_op_at create_how_at create_arm_at sattr_at set_time_at given_time_at time_at optional_at part_at sattr_text set_time_text optional_text stable_at write_at form_at magic_at handle_of
 flush_is_for_commit = record { unstable = ap (λ r. is_unstable 2 r.0.unstable) writes_there; call = refl }
 

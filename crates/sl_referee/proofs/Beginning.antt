@@ -19,7 +19,8 @@ use Rattle.sl_datagram.specs.Datagrams.{datagram_of}
 use Rattle.sl_referee.specs.declared.case.Answer.{Answer}
 use Rattle.sl_referee.specs.declared.case.Case.{Case}
 use Rattle.sl_referee.specs.declared.docket.Docket.{Docket}
-use Rattle.sl_referee.specs.Dockets.{IsCase, IsDocketOf, IsEffectIf, IsOfTurn, IsUnknown, begun, is_event_first}
+use Rattle.sl_referee.specs.Dockets.{IsCase, IsDocketOf, IsEffectIf, IsOfTurn, IsUnknown, is_event_first}
+use Rattle.sl_history.specs.Turns.{begun}
 
 -- ---- the history
 

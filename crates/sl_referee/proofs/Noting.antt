@@ -9,7 +9,7 @@ use Rattle.sl_history.specs.Frames.{is_down, is_up, notes_down, or_else, up_by}
 use Rattle.sl_history.specs.Arrivals.{Asked, asked, asked_by, drops, drops_any}
 use Rattle.sl_history.specs.Volumes.{Effect, after_note, after_notes, effect, effect_among, performed, volume_after, volume_at}
 use Rattle.sl_history.specs.Legal.{any_among, any_in}
-use Rattle.sl_referee.specs.Dockets.{noted}
+use Rattle.sl_history.specs.Turns.{noted}
 
 -- ---- tests
 

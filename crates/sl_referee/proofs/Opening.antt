@@ -18,7 +18,8 @@ use Rattle.sl_datagram.specs.Datagrams.{datagram_of}
 use Rattle.sl_referee.specs.declared.case.Answer.{Answer}
 use Rattle.sl_referee.specs.declared.case.Case.{Case}
 use Rattle.sl_referee.specs.declared.docket.Docket.{Docket}
-use Rattle.sl_referee.specs.Dockets.{IsCase, IsDocketOf, IsEffectIf, begun}
+use Rattle.sl_referee.specs.Dockets.{IsCase, IsDocketOf, IsEffectIf}
+use Rattle.sl_history.specs.Turns.{begun}
 use Rattle.sl_referee.specs.Notes.{IsEventBegun}
 use Rattle.sl_referee.proofs.Beginning.{begins_event}
 

@@ -13,7 +13,7 @@ use Rattle.sl_referee.specs.declared.case.Case.{Case}
 use Rattle.sl_referee.specs.declared.docket.Docket.{Docket}
 use Rattle.sl_referee.specs.declared.fault.RefereeFault.{RefereeFault}
 use Rattle.sl_referee.specs.Cases.{IsAnswerIf, IsLookAt}
-use Rattle.sl_referee.specs.Decisions.{Says}
+use Rattle.sl_history.specs.Deciding.{Says}
 use Rattle.sl_referee.specs.Dockets.{IsDocketOf}
 use Rattle.sl_referee.specs.Stops.{StopsAt, StopsBy}
 use Rattle.sl_referee.proofs.Deciding.{case_asks, looked, looks, of_effect, replied, replies, volume_there, was_of_effect}

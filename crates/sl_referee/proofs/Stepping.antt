@@ -20,7 +20,8 @@ use Rattle.sl_datagram.specs.Datagrams.{datagram_of}
 use Rattle.sl_referee.specs.declared.case.Answer.{Answer}
 use Rattle.sl_referee.specs.declared.case.Case.{Case}
 use Rattle.sl_referee.specs.declared.docket.Docket.{Docket}
-use Rattle.sl_referee.specs.Dockets.{IsCase, IsDocketOf, IsDropOf, IsEffectIf, IsEffectOf, IsOfTurn, IsSetAt, is_event_first, noted, with_drop, with_effect, with_reply}
+use Rattle.sl_referee.specs.Dockets.{IsCase, IsDocketOf, IsDropOf, IsEffectIf, IsEffectOf, IsOfTurn, IsSetAt, is_event_first, with_drop, with_effect, with_reply}
+use Rattle.sl_history.specs.Turns.{noted}
 use Rattle.sl_referee.proofs.Noting.{any_in-noted, asked-noted, drops_any-append, effect-noted, is_up-noted, volume_after-noted, volume_at-noted}
 
 -- ---- one case

@@ -23,8 +23,9 @@ use Rattle.sl_referee.specs.declared.docket.Docket.{Docket}
 use Rattle.sl_referee.specs.declared.fault.RefereeFault.{RefereeFault}
 use Rattle.sl_referee.specs.declared.fault.RefereeFault.TheVariants.{NoMemory, Spent, TooLong}
 use Rattle.sl_referee.specs.Cases.{IsIdle, TakesEffect}
-use Rattle.sl_referee.specs.Decisions.{Says}
-use Rattle.sl_referee.specs.Dockets.{IsDocketOf, IsDropOf, IsSetAt, noted, with_drop, with_effect, with_reply}
+use Rattle.sl_history.specs.Deciding.{Says}
+use Rattle.sl_referee.specs.Dockets.{IsDocketOf, IsDropOf, IsSetAt, with_drop, with_effect, with_reply}
+use Rattle.sl_history.specs.Turns.{noted}
 use Rattle.sl_referee.specs.Notes.{Notes, NotesDrop}
 use Rattle.sl_referee.specs.Stops.{StopsAt, StopsAtIf, StopsBy}
 use Rattle.sl_referee.proofs.Deciding.{asks_none, case_asks, case_asks_nothing, effect_first, is_idle, no_event, no_event_replied, past_end, takes_effect, took_effect, volume_there, was_idle}

@@ -17,7 +17,8 @@ use Rattle.sl_referee.specs.declared.docket.Docket.{Docket}
 use Rattle.sl_referee.specs.declared.fault.RefereeFault.{RefereeFault}
 use Rattle.sl_referee.specs.declared.fault.RefereeFault.TheVariants.{NoMemory, Spent, TooLong}
 use Rattle.sl_referee.specs.Cases.{RepliesIn}
-use Rattle.sl_referee.specs.Dockets.{IsDocketOf, begun}
+use Rattle.sl_referee.specs.Dockets.{IsDocketOf}
+use Rattle.sl_history.specs.Turns.{begun}
 use Rattle.sl_referee.specs.Notes.{Notes}
 use Rattle.sl_referee.specs.Stops.{StopsAmong, StopsIn}
 

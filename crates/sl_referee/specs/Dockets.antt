@@ -62,15 +62,6 @@ pub record IsDocketOf (start : Volume) (h : History) (d : Docket) : Type 0 where
   pub up : d.is_proxy_up ≡ is_up h 0
   pub event : is_event_first h d.is_event
 
--- the history with one remark more of its newest turn
-abbrev pub noted : History → Remark → History
-noted [] r = []
-noted (t ∷ past) r = so_far t (t.remarks ++ r ∷ []) ∷ past
-
--- the history with a turn of which nothing is noted yet
-abbrev pub begun : History → Happening → Time → History
-begun past happening moment = record { happening = happening; moment = moment; remarks = [] } ∷ past
-
 -- one case of a list is changed, and no other
 pub record IsSetAt (old new : List Case) (n : ℕ) (change : Case → Case) : Type 0 where
   pub count : length new ≡ length old

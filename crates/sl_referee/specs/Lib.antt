@@ -1,5 +1,4 @@
 pub mod Cases
-pub mod Decisions
 pub mod Dockets
 pub mod Notes
 pub mod Stops

@@ -12,8 +12,9 @@ use Rattle.sl_datagram.specs.Datagrams.{datagram_of}
 use Rattle.sl_referee.specs.declared.case.Case.{Case}
 use Rattle.sl_referee.specs.declared.docket.Docket.{Docket}
 use Rattle.sl_referee.specs.declared.fault.RefereeFault.{RefereeFault}
-use Rattle.sl_referee.specs.Decisions.{Says}
-use Rattle.sl_referee.specs.Dockets.{IsDocketOf, IsDropOf, noted}
+use Rattle.sl_history.specs.Deciding.{Says}
+use Rattle.sl_referee.specs.Dockets.{IsDocketOf, IsDropOf}
+use Rattle.sl_history.specs.Turns.{noted}
 use Rattle.sl_referee.specs.Stops.{StopsBy}
 
 -- The case of an event that begins.

@@ -13,8 +13,9 @@ ghost use Rattle.sl_history.specs.Legal.{IsDrop, IsReplyIf, MayNote, datagram_in
 ghost use Rattle.sl_past.specs.Words.{happening_of, remark_of};
 ghost use Rattle.sl_datagram.specs.Datagrams.{asked_of, datagram_of};
 ghost use Rattle.sl_referee.specs.Cases.{IsIdle};
-ghost use Rattle.sl_referee.specs.Decisions.{Says};
-ghost use Rattle.sl_referee.specs.Dockets.{IsDocketOf, IsSetAt, begun, noted, with_drop, with_effect, with_reply};
+ghost use Rattle.sl_history.specs.Deciding.{Says};
+ghost use Rattle.sl_referee.specs.Dockets.{IsDocketOf, IsSetAt, with_drop, with_effect, with_reply};
+ghost use Rattle.sl_history.specs.Turns.{begun, noted};
 ghost use Rattle.sl_referee.specs.Notes.{IsEventBegun, IsNewCase, Notes, NotesDrop};
 ghost use Rattle.sl_referee.specs.Stops.{StopsBy};
 

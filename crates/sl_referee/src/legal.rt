@@ -3,8 +3,9 @@ ghost use Rattle.std.specs.Prelude.{◌≡◌, [], ◌∷◌, true, false, Ok, I
 ghost use Rattle.sl_model.specs.Volume as volumes;
 ghost use Rattle.sl_history.specs.Turns as turns;
 ghost use Rattle.sl_history.specs.Legal.{AllMayBeNoted, IsLegalTurn, Legal};
-ghost use Rattle.sl_referee.specs.Decisions.{Says};
-ghost use Rattle.sl_referee.specs.Dockets.{IsDocketOf, begun};
+ghost use Rattle.sl_history.specs.Deciding.{Says};
+ghost use Rattle.sl_referee.specs.Dockets.{IsDocketOf};
+ghost use Rattle.sl_history.specs.Turns.{begun};
 ghost use Rattle.sl_referee.specs.Stops.{StopsAmong, StopsIn};
 
 use crate::docket::Docket;

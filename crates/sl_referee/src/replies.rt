@@ -4,7 +4,7 @@ ghost use Rattle.std.specs.Option.{option_copied};
 ghost use Rattle.sl_history.specs.Legal.{no_choice};
 ghost use Rattle.sl_datagram.specs.Datagrams.{asked_of};
 ghost use Rattle.sl_referee.specs.Cases.{IsAnswerIf, IsAtOnce, IsLookAt};
-ghost use Rattle.sl_referee.specs.Decisions.{Says};
+ghost use Rattle.sl_history.specs.Deciding.{Says};
 ghost use Rattle.sl_referee.specs.Stops.{StopsAt};
 
 use crate::answer::answer;

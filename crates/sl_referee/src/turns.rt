@@ -4,7 +4,7 @@ ghost use Rattle.sl_history.specs.Frames.{up_by};
 ghost use Rattle.sl_history.specs.Turns as turns;
 ghost use Rattle.sl_past.specs.Words.{happening_of, remark_of};
 ghost use Rattle.sl_referee.specs.Cases.{RepliesIn};
-ghost use Rattle.sl_referee.specs.Decisions.{Says};
+ghost use Rattle.sl_history.specs.Deciding.{Says};
 
 use crate::fault::RefereeFault;
 use sl_datagram::{Datagram, read_datagram};

@@ -1,10 +1,10 @@
 -- Flushes, and what a WRITE and a CREATE may tell.
-use Rattle.std.specs.Prelude.{ℕ, [], ◌∷◌, true}
+use Rattle.std.specs.Prelude.{ℕ, List, [], ◌∷◌, true}
 use Rattle.sl_defs.specs.declared.event.Event.TheVariants as event
 use Rattle.sl_types.specs.declared.call.Call.{Call}
 use Rattle.sl_types.specs.declared.call.Stable.TheVariants as stable
 use Rattle.sl_frames.specs.declared.body.Body.TheVariants as body
-use Rattle.sl_history.specs.Turns.{Sent, Did, Flush, History}
+use Rattle.sl_history.specs.Turns.{Remark, Sent, Did, Flush, History}
 use Rattle.sl_history.specs.Legal.{no_choice}
 use Rattle.sl_history.specs.Licensed.{Licensed}
 use Rattle.sl_examples.specs.Histories.{start, epoch, turn, welcomed}
@@ -33,12 +33,18 @@ requested_over =
 abbrev pub requested_again : History
 requested_again = turn event.Tick (Sent 4 (request 1 1 5 flush) ∷ []) ∷ turn (event.Copy 3) (Flush 2 ∷ []) ∷ requested commit
 
--- A flush is asked for only for a call that keeps the file, and only where the file has unstable writes; and not for a WRITE
--- that may stay unstable while the file has few. It may be asked for again for the same call.
+-- it is asked for in the event in which the byte is written: the frame stands before what else is noted
+abbrev pub requested_at_once : List Remark → History
+requested_at_once remarks =
+    turn event.Tick (Sent 3 (request 1 1 4 flush) ∷ remarks) ∷ turn (event.Call 0 (asks commit)) [] ∷ turn (event.Call 0 (asks (write 0 stable.Unstable))) [] ∷ welcomed
+
+-- A flush is asked for only for a call that keeps the file, and only where the file has unstable writes as the event ends;
+-- and not for a WRITE that may stay unstable while the file has few. It may be asked for again for the same call.
 abbrev pub FlushRequestsAreToldApart : Type 0
 FlushRequestsAreToldApart =
     Licensed filed (requested commit) × (Licensed filed (requested change_root) → ⊥) × (Licensed filed (requested (write 0 stable.Unstable)) → ⊥)
     × (Licensed filed requested_clean → ⊥) × (Licensed filed requested_over → ⊥) × Licensed filed requested_again
+    × Licensed filed (requested_at_once (Did 3 epoch no_choice ∷ [])) × (Licensed filed (requested_at_once []) → ⊥)
 
 abbrev pub flushed : History
 flushed = turn (event.Copy 3) (Flush 2 ∷ []) ∷ requested commit

@@ -11,3 +11,4 @@ pub mod Changes
 pub mod Does
 pub mod Cuts
 pub mod Anew
+pub mod EmptyDisks

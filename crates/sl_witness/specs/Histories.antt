@@ -2,12 +2,7 @@
 use Rattle.std.specs.Prelude.{ℕ, List, [], ◌∷◌, ◌++◌, Some, None, false, Ok}
 pub use Rattle.sl_examples.specs.Histories.{setup, epoch, turn, fence, greeting, opening, opened, greeted, welcomed}
 use Rattle.sl_defs.specs.Items.{u32_text}
-use Rattle.sl_defs.specs.Histories.{Opens, Happens}
 use Rattle.sl_defs.specs.Rpc.{accepted_text}
-use Rattle.sl_defs.specs.declared.setup.Setup.{Setup}
-use Rattle.sl_defs.specs.declared.setup.Policy.TheVariants as policy
-use Rattle.sl_defs.specs.declared.setup.Time.{Time}
-use Rattle.sl_defs.specs.declared.event.Event.{Event}
 use Rattle.sl_defs.specs.declared.event.Event.TheVariants as event
 use Rattle.sl_defs.specs.declared.note.Choice.{Choice}
 use Rattle.sl_types.specs.declared.kind.Kind.TheVariants as kind
@@ -30,7 +25,7 @@ use Rattle.sl_model.specs.Perform.{new_root}
 use Rattle.sl_frames.specs.declared.frame.Frame.{Frame}
 use Rattle.sl_frames.specs.declared.body.Body.{Body}
 use Rattle.sl_frames.specs.declared.body.Body.TheVariants as body
-use Rattle.sl_history.specs.Turns.{Remark, Sent, Verf, Did, Replied, Down, Turn, History}
+use Rattle.sl_history.specs.Turns.{Sent, Did, Replied, Down, History}
 
 -- the Hello is lost, and sent again at a tick
 abbrev pub lost : History

@@ -2,7 +2,17 @@
 //! happen. Each function says that one history has a run, and does nothing.
 #![tactic(auto)]
 
+ghost use Rattle.sl_witness.specs.Disks.{EmptyDisksAreSound};
 ghost use Rattle.sl_witness.specs.Runs.{TheEnsembleOpens, TheProxyIsWelcomed, AFrameIsLost, AProxyStartsAgain, ANullCallIsAnswered, ACallIsForwarded, ACallIsReplied, ACallIsDone, ACutCallIsDone, ALostCallIsDone};
+
+use sl_laws::fresh_is_tree;
+
+/// Empty disks hold a new volume at rest, and are sound for it.
+pub fn empty_disks_are_sound()
+    ensures { EmptyDisksAreSound }
+{
+    fresh_is_tree();
+}
 
 /// From empty disks all actors come up, and the proxy sends its first Hello.
 pub fn the_ensemble_opens()

@@ -7,8 +7,9 @@ use Rattle.sl_history.specs.Frames.{is_up}
 use Rattle.sl_history.specs.Legal.{AllMayBeNoted}
 use Rattle.sl_past.specs.Words.{happening_of, remark_of}
 use Rattle.sl_referee.specs.Cases.{RepliesIn}
-use Rattle.sl_referee.specs.Decisions.{Says}
-use Rattle.sl_referee.specs.Dockets.{IsDocketOf, begun}
+use Rattle.sl_history.specs.Deciding.{Says}
+use Rattle.sl_referee.specs.Dockets.{IsDocketOf}
+use Rattle.sl_history.specs.Turns.{begun}
 use Rattle.sl_referee.proofs.Replied.{says_same, says_true}
 use Rattle.sl_referee.proofs.Taking.{newest_is}
 use Rattle.sl_referee.proofs.Turning.{legal_turn, was_at_once}

@@ -3,7 +3,8 @@ use Rattle.std.specs.Prelude.{map}
 use Rattle.sl_model.specs.Volume.{Volume}
 use Rattle.sl_history.specs.Turns.{History}
 use Rattle.sl_past.specs.Words.{remark_of}
-use Rattle.sl_referee.specs.Dockets.{IsDocketOf, begun}
+use Rattle.sl_referee.specs.Dockets.{IsDocketOf}
+use Rattle.sl_history.specs.Turns.{begun}
 use Rattle.sl_referee.proofs.Turning.{Midway}
 use Rattle.sl_referee.proofs.legal.may_be_noted.Given as goal
 

@@ -2,7 +2,8 @@ use Rattle.std.proofs.Common.{true, false, sym, refl, ap, subst, ◌∙◌}
 use Rattle.sl_history.specs.Frames.{up_by}
 use Rattle.sl_past.specs.Words.{happening_of}
 use Rattle.sl_past.specs.declared.happening.Happening.{Happening}
-use Rattle.sl_referee.specs.Dockets.{IsDocketOf, begun}
+use Rattle.sl_referee.specs.Dockets.{IsDocketOf}
+use Rattle.sl_history.specs.Turns.{begun}
 use Rattle.sl_referee.proofs.Beginning.{begins_quietly}
 use Rattle.sl_referee.proofs.Opening.{event_begins, no_event, on_ok}
 use Rattle.sl_referee.proofs.docket.Docket.begin.Goals as goal

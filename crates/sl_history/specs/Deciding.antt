@@ -1,4 +1,4 @@
--- What an answer says of a statement: yes where it holds, and no where it doesn't.
+-- What a checker's answer says of a claim: yes where it holds, and no where it doesn't.
 use Rattle.std.specs.Prelude.{Bool, true, false, Result, Ok, Err}
 
 abbrev pub Says : {E : Type 0} → Result Bool E → Type 0 → Type 0
