@@ -42,7 +42,7 @@ place_total = then_total (on_total (λ (k : ℕ × ℕ). k.0) nat_cmp_total) (on
 exact_places : IsAntisymmetric place_cmp
 exact_places = exact_pairs nat_cmp nat_cmp exact_unsigned exact_unsigned
 
-ends_equal : (o : Ordering) → is_eq o ≡ true → o ≡ Equal
+pub ends_equal : (o : Ordering) → is_eq o ≡ true → o ≡ Equal
 ends_equal Less e = absurd (true≢false (sym e))
 ends_equal Equal e = refl
 ends_equal Greater e = absurd (true≢false (sym e))
@@ -51,12 +51,12 @@ same_place : (q k : ℕ × ℕ) → eq_by_cmp place_cmp q k ≡ true → q ≡ k
 same_place q k e = exact_places q k (ends_equal (place_cmp q k) e)
 
 -- no byte was written before
-nothing_cut : (f size : ℕ) (m : FinMap place_cmp ℕ) (k : ℕ × ℕ) → get m k ≡ None → get (cut_at f size m) k ≡ None
+pub nothing_cut : (f size : ℕ) (m : FinMap place_cmp ℕ) (k : ℕ × ℕ) → get m k ≡ None → get (cut_at f size m) k ≡ None
 nothing_cut f size m k e =
     get-retain_keys m _ k (λ x t. ap (λ (q : ℕ × ℕ). not (q.0 == f) || nat_lt q.1 size) (sym (exact_places k x t)))
     ∙ (ap (λ o. cond (not (k.0 == f) || nat_lt k.1 size) o None) e ∙ either_way (not (k.0 == f) || nat_lt k.1 size) None)
 
-nothing_written : (q : ℕ × ℕ) → get v1.written q ≡ None
+pub nothing_written : (q : ℕ × ℕ) → get v1.written q ≡ None
 unfolding fresh
 nothing_written q = nothing_cut 2 0 _ q (nothing_cut 1 32 _ q (get-empty place_cmp q))
 
@@ -85,7 +85,7 @@ one_directory : (s : ℕ) → carrier setup class.Dir s ≡ 16
 unfolding carrier
 one_directory s = ap (λ n. 16 + n) (mod_one s)
 
-key_lies : (k : Key) → key_server setup k ≡ 16
+pub key_lies : (k : Key) → key_server setup k ≡ 16
 key_lies (NodeKey f) = one_directory _
 key_lies (NameKey d name) = one_directory _
 

@@ -49,11 +49,11 @@ wrote = model.stable_write new_node 0 written_bytes fence epoch
 abbrev pub v2 : Volume
 v2 = after_changes wrote.changes v1
 
-has_root : get v0.nodes 1 ≡ Some (new_root 1)
+pub has_root : get v0.nodes 1 ≡ Some (new_root 1)
 unfolding fresh
 has_root = got_here _ 1 _
 
-has_no_name : get v0.names (1, name) ≡ None
+pub has_no_name : get v0.names (1, name) ≡ None
 unfolding fresh
 has_no_name = get-empty _ (1, name)
 

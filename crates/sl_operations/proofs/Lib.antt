@@ -6,6 +6,10 @@ pub mod Serving
 pub mod Creating
 pub mod Creates
 pub mod Writing
+pub mod Names
+pub mod Removing
+pub mod Removes
+pub mod RemovesAgain
 pub mod Intends
 pub mod Decides
 pub mod Finishes
@@ -21,7 +25,11 @@ pub mod CutDecisions
 pub mod Lawful
 pub mod CutLocks
 pub mod LawfulFlush
+pub mod LawfulRemoves
 pub mod Stands
 pub mod LicensedFlush
+pub mod LicensedRemoves
 pub mod LicensedRefusal
 pub mod Granted
+pub mod WiredCreates
+pub mod WiredRemoves

@@ -85,7 +85,7 @@ decides = record { may = (tt, (tt, (tt, (flush_is_asked_for, tt)))); dropped = r
 licensed_welcomed : Licensed start welcomed
 licensed_welcomed = (((tt, record { may = (tt, tt); dropped = refl }), record { may = (tt, tt); dropped = refl }), welcomes)
 
-licensed_created : Licensed start created
+pub licensed_created : Licensed start created
 licensed_created = (((((((licensed_welcomed, arrives), record { may = (tt, tt); dropped = refl }), record { may = (tt, tt); dropped = refl }), record { may = (tt, tt); dropped = refl }), record { may = (tt, tt); dropped = refl }), makes), record { may = (tt, tt); dropped = refl })
 
 pub licensed_buffered : Licensed start buffered

@@ -7,6 +7,8 @@ use Rattle.sl_defs.specs.declared.note.Choice.{Choice}
 use Rattle.sl_types.specs.declared.call.CreateHow.TheVariants as how
 use Rattle.sl_types.specs.declared.call.Stable.TheVariants as stable
 use Rattle.sl_types.specs.declared.kind.Kind.TheVariants as kind
+use Rattle.sl_types.specs.declared.kind.Status.{Status}
+use Rattle.sl_types.specs.declared.kind.Status.TheVariants as status
 use Rattle.sl_types.specs.declared.handle.Handle.{Handle}
 use Rattle.sl_types.specs.declared.reply.Reply.{Reply}
 use Rattle.sl_types.specs.declared.reply.Reply.TheVariants as reply
@@ -15,6 +17,7 @@ use Rattle.sl_rpc.specs.Heads.{nobody}
 use Rattle.sl_items.specs.Spelling.{sattr_text}
 use Rattle.sl_replies.specs.Texts.{reply_text}
 use Rattle.sl_cells.specs.declared.keys.CellKey.TheVariants as key
+use Rattle.sl_cells.specs.declared.cells.NameCell.{NameCell}
 use Rattle.sl_cells.specs.declared.changes.Change.{Change}
 use Rattle.sl_cells.specs.declared.changes.Change.TheVariants as change
 use Rattle.sl_frames.specs.declared.found.FoundCell.TheVariants as cell
@@ -28,8 +31,8 @@ use Rattle.sl_frames.specs.declared.body.Body.{Body}
 use Rattle.sl_frames.specs.declared.body.Body.TheVariants as body
 use Rattle.sl_model.specs.declared.node.Node.{Node}
 use Rattle.sl_model.specs.Volume.{written_to}
-use Rattle.sl_model.specs.Looking.{attributes, wcc_of}
-use Rattle.sl_model.specs.Changing.{with_name, new_file, nothing_given, made, wrote, cookie_in, entry_to}
+use Rattle.sl_model.specs.Looking.{attributes, no_wcc, wcc_of}
+use Rattle.sl_model.specs.Changing.{with_name, without_name, new_file, nothing_given, made, wrote, cookie_in, entry_to}
 use Rattle.sl_model.specs.Perform.{new_root}
 use Rattle.sl_history.specs.Turns.{Sent, Did, Replied, Flush, Verf, Down, History}
 use Rattle.sl_history.specs.Wired.{name_cell}
@@ -74,12 +77,12 @@ create_answer last = reply.Create (Ok (record (made new_node) { object = Some (f
 abbrev pub create_reply : ℕ → ℕ → List ℕ
 create_reply xid last = accepted_text xid 0 ++ reply_text (create_answer last)
 
+abbrev pub new_name : NameCell
+new_name = name_cell 1 name (entry_to new_node (cookie_in (new_root 1)))
+
 -- the cells of the root, of the name and of the file
 abbrev pub new_cells : List Change
-new_cells =
-    change.PutAttr (object_cell full_root [])
-    ∷ change.PutName (name_cell 1 name (entry_to new_node (cookie_in (new_root 1))))
-    ∷ change.PutAttr (object_cell new_node []) ∷ []
+new_cells = change.PutAttr (object_cell full_root []) ∷ change.PutName new_name ∷ change.PutAttr (object_cell new_node []) ∷ []
 
 abbrev pub ask_name : Frame
 ask_name = request 3 16 1 (body.Ask (key.Name 1 name ∷ key.Attr 1 ∷ []))
@@ -123,6 +126,65 @@ file_made = turn (event.Give 7) (Sent 8 created_packet ∷ Did 3 epoch file_two 
 
 abbrev pub created : History
 created = turn (event.Give 8) (Replied 3 8 (create_reply 7 0) ∷ []) ∷ file_made
+
+-- ---- REMOVE of the file, and the same datagram again
+
+abbrev pub remove_call : ℕ → ℕ → List ℕ
+remove_call xid last = call_of xid 12 (u32_text 32 ++ (root_handle last ++ (u32_text 1 ++ (97 ∷ 0 ∷ 0 ∷ 0 ∷ []))))
+
+abbrev pub remove_reply : ℕ → Status → List ℕ
+remove_reply xid s = accepted_text xid 0 ++ reply_text (reply.Remove s no_wcc)
+
+abbrev pub emptied_root : Node
+emptied_root = without_name full_root kind.Reg epoch
+
+-- the root's cell changes, and those of the name and of the file go
+abbrev pub gone_cells : List Change
+gone_cells = change.PutAttr (object_cell emptied_root []) ∷ change.TakeName 1 name ∷ change.TakeAttr 2 ∷ []
+
+abbrev pub look_up : ℕ → ℕ → Frame
+look_up arrival tag = request arrival 16 tag (body.Ask (key.Name 1 name ∷ key.Attr 1 ∷ []))
+
+abbrev pub found_name : Frame
+found_name = answer 16 0 4 (body.Found (cell.Name new_name ∷ cell.Attr (object_cell full_root []) ∷ []))
+
+abbrev pub ask_named : Frame
+ask_named = request 10 16 5 (body.Ask (key.Attr 2 ∷ []))
+
+abbrev pub found_named : Frame
+found_named = answer 16 0 5 (body.Found (cell.Attr (object_cell new_node []) ∷ []))
+
+abbrev pub remove : Frame
+remove = request 10 16 6 (body.Forward 0 (remove_call 6 16))
+
+abbrev pub removed_packet : Frame
+removed_packet = answer 16 0 6 (body.Packet (remove_reply 6 status.Ok))
+
+-- the name is asked for, then the file that it leads to, and the directory server does the call
+abbrev pub remove_asked : History
+remove_asked = turn (event.Call 0 (remove_call 8 0)) (Sent 9 (look_up 10 4) ∷ []) ∷ created
+
+abbrev pub named_asked : History
+named_asked = turn (event.Give 10) (Sent 11 ask_named ∷ []) ∷ turn (event.Give 9) (Sent 10 found_name ∷ []) ∷ remove_asked
+
+abbrev pub remove_ordered : History
+remove_ordered = turn (event.Give 12) (Sent 13 remove ∷ []) ∷ turn (event.Give 11) (Sent 12 found_named ∷ []) ∷ named_asked
+
+abbrev pub file_removed : History
+file_removed = turn (event.Give 13) (Sent 14 removed_packet ∷ Did 10 epoch no_fileid ∷ []) ∷ remove_ordered
+
+abbrev pub removed : History
+removed = turn (event.Give 14) (Replied 10 15 (remove_reply 8 status.Ok) ∷ []) ∷ file_removed
+
+abbrev pub found_gone : Frame
+found_gone = answer 16 0 7 (body.Found (cell.Absent ∷ cell.Attr (object_cell emptied_root []) ∷ []))
+
+-- the name is asked for again, and isn't there: the call changes nothing, and takes effect at the proxy
+abbrev pub gone_asked : History
+gone_asked = turn (event.Give 15) (Sent 16 found_gone ∷ []) ∷ turn (event.Call 0 (remove_call 8 0)) (Sent 15 (look_up 17 7) ∷ []) ∷ removed
+
+abbrev pub removed_twice : History
+removed_twice = turn (event.Give 16) (Did 17 epoch no_fileid ∷ Replied 17 19 (remove_reply 8 status.NoEnt) ∷ []) ∷ gone_asked
 
 -- ---- WRITE of two bytes to the file
 

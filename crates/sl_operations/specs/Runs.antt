@@ -25,7 +25,8 @@ use Rattle.sl_machine.specs.World.{World}
 use Rattle.sl_machine.specs.Runs.{Run}
 use Rattle.sl_witness.specs.Histories.{setup, epoch, fence, turn}
 use Rattle.sl_witness.specs.Runs.{CanHappen, Disks, HasEmptyDisks, IsUpWith, first_world, welcomed_disks}
-use Rattle.sl_operations.specs.Histories.{new_node, written_node, written_bytes, new_cells, create_reply, new_attributes, new_bytes, the_intent, created, finished, cut_finish, finish_again, kept_bytes, the_flush, buffered, flushed, next_fence, welcomed_again, decision_finished, anew_finished, cut_lock, lock_again, decided, apply, kept_write, granted}
+use Rattle.sl_types.specs.declared.kind.Status.TheVariants as status
+use Rattle.sl_operations.specs.Histories.{new_node, written_node, written_bytes, new_cells, create_reply, gone_cells, remove_reply, removed, removed_twice, new_attributes, new_bytes, the_intent, created, finished, cut_finish, finish_again, kept_bytes, the_flush, buffered, flushed, next_fence, welcomed_again, decision_finished, anew_finished, cut_lock, lock_again, decided, apply, kept_write, granted}
 
 -- all actors are up, and their disks have these records
 pub record HasDisks (w : World) (d : Disks) : Type 0 where
@@ -74,6 +75,33 @@ created_disks = record welcomed_disks { directory = created_records }
 -- A file is made: its name is asked for, then a fileid, and the directory server does the call alone.
 abbrev pub AFileIsMade : Type 0
 AFileIsMade = CanHappen created created_disks
+
+-- ---- REMOVE
+
+abbrev pub did_remove : Did
+did_remove = record {
+  request = record { fence = fence; tag = 6; low = 6; arrival = 10 };
+  moment = epoch;
+  chosen = 0;
+  changes = gone_cells;
+  reply = remove_reply 6 status.Ok;
+}
+
+abbrev pub removed_records : List Record
+removed_records = OfDir (dir.Did did_remove) ∷ created_records
+
+abbrev pub removed_disks : Disks
+removed_disks = record welcomed_disks { directory = removed_records }
+
+-- The file is removed: its name is asked for, then the file's cell, and the directory server does the call alone. An empty
+-- file has no bytes that other servers would have to drop.
+abbrev pub AFileIsRemoved : Type 0
+AFileIsRemoved = CanHappen removed removed_disks
+
+-- The same datagram arrives again, as a call of its own. It is answered that there is no such file (NFS3ERR_NOENT), takes
+-- effect without changing anything, and leaves the disks as they were.
+abbrev pub AnAbsentFileIsNotRemoved : Type 0
+AnAbsentFileIsNotRemoved = CanHappen removed_twice removed_disks
 
 -- ---- a stable WRITE
 
@@ -205,9 +233,22 @@ AStableWriteIsLegal = Legal examples.start finished
 abbrev pub AFlushIsLegal : Type 0
 AFlushIsLegal = Legal examples.start flushed
 
+-- The replies of the two REMOVEs are one server's: the first finds the file, and the second none.
+abbrev pub ARemovalIsLegal : Type 0
+ARemovalIsLegal = Legal examples.start removed_twice
+
 -- What the history of a flush drops, forgets, flushes and keeps, it may.
 abbrev pub AFlushIsLicensed : Type 0
 AFlushIsLicensed = Licensed examples.start flushed
+
+-- The history of the two REMOVEs drops, forgets, flushes and keeps nothing that it may not.
+abbrev pub ARemovalIsLicensed : Type 0
+ARemovalIsLicensed = Licensed examples.start removed_twice
+
+-- In it frames and servers play their parts: requests are answered by those that they went to, what the directory server
+-- tells is there, and the first REMOVE takes effect where the root, the name and the file lie.
+abbrev pub ARemovalIsWired : Type 0
+ARemovalIsWired = wired.Wired setup examples.start removed_twice
 
 -- The history of a flush that is refused is legal, and the write verifier may rise in it.
 abbrev pub ARefusalIsLicensed : Type 0

@@ -1,12 +1,23 @@
-//! Runs of the machine in which a file is made and bytes are written to it, on several servers together: what the machine
+//! Runs of the machine in which a file is made, written to or removed, on several servers together: what the machine
 //! says can happen. Each function says that one history has a run, and does nothing.
 #![tactic(auto)]
 
-ghost use Rattle.sl_operations.specs.Runs.{AFileIsMade, AStableWriteIsDone, ACutFinishIsDone, ALostFinishIsDone, AWriteIsBuffered, AWriteIsFlushed, AFlushIsRefused, ACutDecisionIsDone, ALostDecisionIsDone, ACutLockIsDone, ALostLockIsDone, AStableWriteIsLegal, AFlushIsLegal, AFlushIsLicensed, ARefusalIsLicensed, AStableWriteStandsRightly, TheDisksStand};
+ghost use Rattle.sl_operations.specs.Runs.{AFileIsMade, AFileIsRemoved, AnAbsentFileIsNotRemoved, AStableWriteIsDone, ACutFinishIsDone, ALostFinishIsDone, AWriteIsBuffered, AWriteIsFlushed, AFlushIsRefused, ACutDecisionIsDone, ALostDecisionIsDone, ACutLockIsDone, ALostLockIsDone, AStableWriteIsLegal, AFlushIsLegal, ARemovalIsLegal, AFlushIsLicensed, ARemovalIsLicensed, ARemovalIsWired, ARefusalIsLicensed, AStableWriteStandsRightly, TheDisksStand};
 
 /// CREATE asks for the name and then for a fileid, and the directory server makes the file alone.
 pub fn a_file_is_made()
     ensures { AFileIsMade }
+{}
+
+/// REMOVE asks for the name and then for the file that it leads to, and the directory server removes the file alone.
+pub fn a_file_is_removed()
+    ensures { AFileIsRemoved }
+{}
+
+/// The same datagram again is a call of its own, with an effect and a reply of its own: there is no such file, and the disks
+/// stay as they were.
+pub fn an_absent_file_is_not_removed()
+    ensures { AnAbsentFileIsNotRemoved }
 {}
 
 /// A stable WRITE is an operation on a directory server and a small-file server: both are locked, the coordinator decides,
@@ -77,9 +88,25 @@ pub fn a_flush_is_legal()
     ensures { AFlushIsLegal }
 {}
 
-/// What that history drops, forgets, flushes and keeps, it may.
+/// The history of the two REMOVEs is legal.
+pub fn a_removal_is_legal()
+    ensures { ARemovalIsLegal }
+{}
+
+/// What the history of the flush drops, forgets, flushes and keeps, it may.
 pub fn a_flush_is_licensed()
     ensures { AFlushIsLicensed }
+{}
+
+/// The history of the two REMOVEs drops, forgets, flushes and keeps nothing that it may not.
+pub fn a_removal_is_licensed()
+    ensures { ARemovalIsLicensed }
+{}
+
+/// In that history requests are answered by those that they went to, what the directory server tells is there, and the first
+/// REMOVE takes effect where the root, the name and the file lie.
+pub fn a_removal_is_wired()
+    ensures { ARemovalIsWired }
 {}
 
 /// The history of the refused flush is legal, and the write verifier may rise in it, since the small-file server stopped.
