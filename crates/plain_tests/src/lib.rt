@@ -2,6 +2,8 @@
 #![tactic(auto)]
 
 #[cfg(test)]
+mod differing;
+#[cfg(test)]
 mod tests;
 #[cfg(test)]
 mod volumes;

@@ -115,7 +115,7 @@ fn file(alloc: Global) -> Result<Fh, NoMemory> {
 }
 
 // A volume with a file, and an unstable write of two bytes at offset 3.
-fn written(alloc: Global) -> Result<Volume, Fail> {
+pub fn written(alloc: Global) -> Result<Volume, Fail> {
     let mut volume = Volume::new(alloc, 7)?;
     let create = Call::Create {
         dir: Fh::new(bytes(alloc, &ROOT.bytes())?),

@@ -2,9 +2,11 @@
 //! (RFC 5531, section 9; RFC 1813, section 3.3).
 #![tactic(auto)]
 
+mod calls;
 mod datagram;
 mod reading;
 
+pub use calls::{fileid_of, is_changing, may_change};
 pub use datagram::{Asked, Datagram};
 pub use reading::read_datagram;
 

@@ -1,5 +1,6 @@
 use super::*;
-use sl_types::Call;
+use sl_types::{Call, Handle, Kind};
+use std::alloc::Global;
 use std::test::Fail;
 
 /// A GETATTR of the handle `root`, made for nobody: xid 5, a call, RPC version 2, program 100003, version 3, procedure 1,
@@ -94,4 +95,37 @@ fn a_header_that_ends_early_is_junk(rt: HostRuntime) -> Result<(), Fail> {
         );
     }
     Ok(())
+}
+
+/// A COMMIT of the same handle: procedure 21, from the first byte to the last.
+const COMMIT: &[u8] =
+    b"\0\0\0\x05\0\0\0\0\0\0\0\x02\0\x01\x86\xa3\0\0\0\x03\0\0\0\x15\0\0\0\0\0\0\0\0\0\0\0\0\0\0\0\0\0\0\0\x04root\0\0\0\0\0\0\0\0\0\0\0\0";
+
+/// Whether the call of a packet may change something, and whether it may at least make something stable.
+fn changes(alloc: Global, packet: &[u8]) -> Option<(bool, bool)> {
+    match read_datagram(alloc, packet).ok()? {
+        Datagram::Asked(asked) => Some((is_changing(&asked.call), may_change(&asked.call))),
+        _ => None,
+    }
+}
+
+#[test]
+fn a_getattr_changes_nothing(rt: HostRuntime) {
+    assert_eq!(rt; changes(rt.alloc(), GETATTR), Some((false, false)));
+}
+
+#[test]
+fn a_commit_changes_nothing_and_makes_stable(rt: HostRuntime) {
+    assert_eq!(rt; changes(rt.alloc(), COMMIT), Some((false, true)));
+}
+
+#[test]
+fn a_handle_leads_to_its_fileid(rt: HostRuntime) {
+    let handle = Handle {
+        volume: 1,
+        fileid: 9,
+        kind: Kind::Reg,
+    };
+    assert_eq!(rt; fileid_of(&handle.bytes()), 9);
+    assert_eq!(rt; fileid_of(b"root"), 0);
 }

@@ -35,7 +35,8 @@ abbrev or_else : {X : Type 0} → Option X → Option X → Option X
 or_else (Some x) o = Some x
 or_else None o = o
 
-none_below : {K X : Type 0} (R : K → K → Ordering) (o : IsTotalOrder R) (k q : K) (es : List (K × X)) → eq_by_cmp R q k ≡ true → AllByRecursion (λ y. R k y ≡ Less) (keys_of es) → find R q es ≡ None
+-- no key below the first is like one that is like the first
+pub none_below : {K X : Type 0} (R : K → K → Ordering) (o : IsTotalOrder R) (k q : K) (es : List (K × X)) → eq_by_cmp R q k ≡ true → AllByRecursion (λ y. R k y ≡ Less) (keys_of es) → find R q es ≡ None
 none_below R o k q [] t h = refl
 none_below R o k q (e ∷ es) t h = ap (λ b. cond b (Some e.1) (find R q es)) apart ∙ none_below R o k q es t h.1
   where

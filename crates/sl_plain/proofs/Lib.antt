@@ -7,3 +7,4 @@ pub mod ChangingRuns
 pub mod OutcomeLaws
 pub mod CopyLaws
 pub mod ListingLaws
+pub mod DifferingLaws

@@ -1,5 +1,6 @@
 pub mod Maps
 pub mod Unstables
+pub mod Differing
 pub mod Code
 pub mod Steps
 pub mod Found

@@ -9,7 +9,7 @@ use std::marker::Model;
 
 /// Lines of a listing, which contracts see as that list.
 #[derive(Drop, Debug)]
-pub(crate) struct Lines {
+pub struct Lines {
     items: Vec<Listed>,
 }
 
@@ -33,7 +33,7 @@ impl Lines {
     }
 
     /// The lines in their order.
-    pub(crate) fn as_slice(&self) -> &[Listed]
+    pub fn as_slice(&self) -> &[Listed]
         ensures { result.now ≡ self.now }
     {
         self.items.as_slice()

@@ -1,7 +1,8 @@
-ghost use Rattle.std.specs.Prelude.{◌≡◌, ℕ, [], map as each, OnOk, IfOk};
+ghost use Rattle.std.specs.Prelude.{◌≡◌, ◌↔◌, ℕ, [], true, Some, map as each, OnOk, IfOk};
 ghost use Rattle.std.specs.FinMap as map;
 ghost use Rattle.sl_model.specs.Volume.{listed};
-ghost use Rattle.sl_plain.specs.Maps.{named};
+ghost use Rattle.sl_plain.specs.Maps.{named, key_of};
+ghost use Rattle.sl_plain.specs.Differing.{Gathers, IsUnlike, IsWithin, LeadsTo};
 
 use crate::lines::Lines;
 use sl_defs::{Bytes, NoMemory};
@@ -28,6 +29,13 @@ impl Place {
             Ok(name) => Ok(Place { dir, name }),
             Err(_) => Err(NoMemory),
         }
+    }
+
+    /// An equal place, in memory of its own.
+    pub(crate) fn copy(&self, alloc: Global) -> Result<Place, NoMemory>
+        ensures { IfOk result (λ place. key_of place ≡ key_of self.now) }
+    {
+        Place::of(alloc, self.dir, self.name.as_slice())
     }
 }
 
@@ -122,6 +130,68 @@ impl Names {
             }
             None => self.entries.range(first..),
         }
+    }
+
+    // Whether the other map has each of these names.
+    fn is_within(&self, other: &Names) -> bool
+        ensures { (result ≡ true) ↔ IsWithin self.now other.now }
+    {
+        for (place, entry) in self.entries.iter() {
+            if !other.has(place, *entry) {
+                return false;
+            }
+        }
+        true
+    }
+
+    /// Whether the maps are equal.
+    pub fn is_same(&self, other: &Names) -> bool
+        ensures { (result ≡ true) ↔ (self.now ≡ other.now) }
+    {
+        self.is_within(other) && other.is_within(self)
+    }
+
+    // Whether the name leads to this.
+    fn has(&self, place: &Place, entry: Entry) -> bool
+        ensures { (result ≡ true) ↔ (map.get self.now (key_of place.now) ≡ Some entry) }
+    {
+        self.get(place) == Some(entry)
+    }
+
+    /// Puts the names that the other map hasn't, or not so, behind the given ones.
+    pub(crate) fn put_unlike(
+        &self,
+        alloc: Global,
+        other: &Names,
+        unlike: &mut Vec<Place>,
+    ) -> Result<(), NoMemory>
+        ensures { OnOk result (Gathers (IsUnlike other.now) self.now (each key_of unlike.old.items) (each key_of unlike.new.items)) }
+    {
+        for (place, entry) in self.entries.iter() {
+            if other.has(place, *entry) {
+                continue;
+            }
+            let Ok(_) = unlike.push(place.copy(alloc)?) else {
+                return Err(NoMemory);
+            };
+        }
+        Ok(())
+    }
+
+    /// The names that lead to an object.
+    pub(crate) fn leading_to(&self, alloc: Global, fileid: u64) -> Result<Vec<Place>, NoMemory>
+        ensures { IfOk result (λ places. Gathers (LeadsTo fileid) self.now [] (each key_of places.items)) }
+    {
+        let mut places = Vec::new(alloc);
+        for (place, entry) in self.entries.iter() {
+            if entry.fileid != fileid {
+                continue;
+            }
+            let Ok(_) = places.push(place.copy(alloc)?) else {
+                return Err(NoMemory);
+            };
+        }
+        Ok(places)
     }
 
     /// Equal names, in memory of their own.

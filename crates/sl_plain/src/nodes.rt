@@ -1,5 +1,6 @@
-ghost use Rattle.std.specs.Prelude.{◌≡◌, ◌<◌, ◌^◌, OnOk, IfOk};
+ghost use Rattle.std.specs.Prelude.{◌≡◌, ◌↔◌, ◌<◌, ◌^◌, true, Some, OnOk, IfOk};
 ghost use Rattle.std.specs.FinMap as map;
+ghost use Rattle.sl_plain.specs.Differing.{Gathers, IsUnlike, IsWithin};
 
 use sl_defs::NoMemory;
 use sl_model::Node;
@@ -73,6 +74,47 @@ impl Nodes {
             copy.put(*fileid, *node)?;
         }
         Ok(copy)
+    }
+
+    // Whether the other map has each of these nodes.
+    fn is_within(&self, other: &Nodes) -> bool
+        ensures { (result ≡ true) ↔ IsWithin self.now other.now }
+    {
+        for (fileid, node) in self.entries.iter() {
+            if !other.has(*fileid, *node) {
+                return false;
+            }
+        }
+        true
+    }
+
+    /// Whether the maps are equal.
+    pub fn is_same(&self, other: &Nodes) -> bool
+        ensures { (result ≡ true) ↔ (self.now ≡ other.now) }
+    {
+        self.is_within(other) && other.is_within(self)
+    }
+
+    // Whether the fileid has this node.
+    fn has(&self, fileid: u64, node: Node) -> bool
+        ensures { (result ≡ true) ↔ (map.get self.now fileid ≡ Some node) }
+    {
+        self.get(fileid) == Some(node)
+    }
+
+    /// Puts the fileids whose nodes the other map hasn't behind the given ones.
+    pub(crate) fn put_unlike(&self, other: &Nodes, unlike: &mut Vec<u64>) -> Result<(), NoMemory>
+        ensures { OnOk result (Gathers (IsUnlike other.now) self.now unlike.old.items unlike.new.items) }
+    {
+        for (fileid, node) in self.entries.iter() {
+            if other.has(*fileid, *node) {
+                continue;
+            }
+            let Ok(_) = unlike.push(*fileid) else {
+                return Err(NoMemory);
+            };
+        }
+        Ok(())
     }
 
     /// How many nodes there are.

@@ -1,6 +1,8 @@
-ghost use Rattle.std.specs.Prelude.{◌≡◌, [], OnOk, IfOk, unwrap_or};
+ghost use Rattle.std.specs.Prelude.{◌≡◌, ◌↔◌, [], true, Some, OnOk, IfOk, unwrap_or};
 ghost use Rattle.std.specs.FinMap as map;
+ghost use Rattle.sl_plain.specs.Differing.{Gathers, IsUnlike, IsWithin};
 
+use crate::differing::are_same;
 use sl_defs::{Bytes, NoMemory};
 use std::alloc::Global;
 use std::collections::BTreeMap;
@@ -71,5 +73,49 @@ impl Texts {
             copy.put(*fileid, text.copy()?)?;
         }
         Ok(copy)
+    }
+
+    // Whether the link has this text.
+    fn has(&self, fileid: u64, text: &Bytes) -> bool
+        ensures { (result ≡ true) ↔ (map.get self.now fileid ≡ Some text.now) }
+    {
+        match self.entries.get(&fileid) {
+            Some(there) => are_same(there.as_slice(), text.as_slice()),
+            None => false,
+        }
+    }
+
+    // Whether the other map has each of these texts.
+    fn is_within(&self, other: &Texts) -> bool
+        ensures { (result ≡ true) ↔ IsWithin self.now other.now }
+    {
+        for (fileid, text) in self.entries.iter() {
+            if !other.has(*fileid, text) {
+                return false;
+            }
+        }
+        true
+    }
+
+    /// Whether the maps are equal.
+    pub fn is_same(&self, other: &Texts) -> bool
+        ensures { (result ≡ true) ↔ (self.now ≡ other.now) }
+    {
+        self.is_within(other) && other.is_within(self)
+    }
+
+    /// Puts the fileids whose texts the other map hasn't behind the given ones.
+    pub(crate) fn put_unlike(&self, other: &Texts, unlike: &mut Vec<u64>) -> Result<(), NoMemory>
+        ensures { OnOk result (Gathers (IsUnlike other.now) self.now unlike.old.items unlike.new.items) }
+    {
+        for (fileid, text) in self.entries.iter() {
+            if other.has(*fileid, text) {
+                continue;
+            }
+            let Ok(_) = unlike.push(*fileid) else {
+                return Err(NoMemory);
+            };
+        }
+        Ok(())
     }
 }

@@ -10,7 +10,7 @@ use sl_types::{Fattr, Handle, MakeOk, Wcc};
 use std::alloc::Global;
 
 /// The attributes of an object.
-pub(crate) fn attributes(n: Node) -> Fattr
+pub fn attributes(n: Node) -> Fattr
     ensures { result ≡ looking.attributes n }
 {
     Fattr {

@@ -1,9 +1,10 @@
 ghost use Rattle.std.specs.List.{list_any};
-ghost use Rattle.std.specs.Prelude.{◌≡◌, ◌==◌, ◌++◌, ◌∷◌, [], map, ◌+◌, ◌^◌, ◌<◌, length, OnOk, IfOk};
+ghost use Rattle.std.specs.Prelude.{◌≡◌, ◌↔◌, true, ◌==◌, ◌++◌, ◌∷◌, [], map, ◌+◌, ◌^◌, ◌<◌, length, OnOk, IfOk};
 ghost use Rattle.sl_model.specs.Gathered.{is_unstable};
 ghost use Rattle.sl_model.specs.Volume.{without_file, after_write, after_writes, byte_after, byte_after_write};
 ghost use Rattle.sl_plain.specs.Unstables.{write_of};
 
+use crate::differing::are_same;
 use crate::pending::Pending;
 use sl_defs::NoMemory;
 use sl_model::Node;
@@ -25,6 +26,16 @@ impl Pending {
             ctime: self.moment,
             ..node
         }
+    }
+
+    // Whether it is this write.
+    fn is_same(&self, other: &Pending) -> bool
+        ensures { (result ≡ true) ↔ (write_of self.now ≡ write_of other.now) }
+    {
+        self.fileid == other.fileid
+            && self.offset == other.offset
+            && self.moment == other.moment
+            && are_same(self.bytes.as_slice(), other.bytes.as_slice())
     }
 
     // An equal write, in memory of its own.
@@ -61,6 +72,21 @@ fn any_of(writes: &[Pending], file: u64) -> bool
     ensures { result ≡ list_any (λ w. w.fileid == file) writes.now }
 {
     writes.iter().any(|write| write.fileid == file)
+}
+
+// Whether they are the same writes in the same order.
+fn are_same_writes(writes: &[Pending], others: &[Pending]) -> bool
+    ensures { (result ≡ true) ↔ (map write_of writes.now ≡ map write_of others.now) }
+{
+    if writes.len() != others.len() {
+        return false;
+    }
+    for i in 0..writes.len() {
+        if !writes[i].is_same(&others[i]) {
+            return false;
+        }
+    }
+    true
 }
 
 /// The unstable writes of a volume, from the oldest on, which contracts see as that list.
@@ -140,6 +166,13 @@ impl UnstableWrites {
             byte = write.byte_after(file, offset, byte);
         }
         byte
+    }
+
+    /// Whether they are the same writes in the same order.
+    pub fn is_same(&self, other: &UnstableWrites) -> bool
+        ensures { (result ≡ true) ↔ (self.now ≡ other.now) }
+    {
+        are_same_writes(self.items.as_slice(), other.items.as_slice())
     }
 
     /// Equal writes, in memory of their own.

@@ -1,5 +1,6 @@
-ghost use Rattle.std.specs.Prelude.{◌≡◌, OnOk, IfOk, is_some};
+ghost use Rattle.std.specs.Prelude.{◌≡◌, ◌↔◌, true, OnOk, IfOk, is_some};
 ghost use Rattle.std.specs.FinMap as map;
+ghost use Rattle.sl_plain.specs.Differing.{IsWithin};
 
 use sl_defs::NoMemory;
 use std::alloc::Global;
@@ -64,5 +65,24 @@ impl Used {
             copy.put(*fileid)?;
         }
         Ok(copy)
+    }
+
+    // Whether the other map has each of these fileids.
+    fn is_within(&self, other: &Used) -> bool
+        ensures { (result ≡ true) ↔ IsWithin self.now other.now }
+    {
+        for (fileid, _) in self.entries.iter() {
+            if !other.has(*fileid) {
+                return false;
+            }
+        }
+        true
+    }
+
+    /// Whether the fileids are the same.
+    pub fn is_same(&self, other: &Used) -> bool
+        ensures { (result ≡ true) ↔ (self.now ≡ other.now) }
+    {
+        self.is_within(other) && other.is_within(self)
     }
 }

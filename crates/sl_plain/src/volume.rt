@@ -1,4 +1,4 @@
-ghost use Rattle.std.specs.Prelude.{◌≡◌, ◌≤◌, ◌+◌, ◌^◌, ◌<◌, length, IfOk, OnOk, is_some};
+ghost use Rattle.std.specs.Prelude.{◌≡◌, ◌↔◌, ◌≤◌, ◌+◌, ◌^◌, ◌<◌, true, map as each, length, IfOk, OnOk, is_some};
 ghost use Rattle.std.specs.FinMap as map;
 ghost use Rattle.sl_model.specs.Volume as volume;
 ghost use Rattle.sl_model.specs.Volume.{PutNode, TakeNode, PutName, TakeName, PutText, PutBytes, AddWrite};
@@ -6,8 +6,10 @@ ghost use Rattle.sl_model.specs.Gathered.{is_unstable};
 ghost use Rattle.sl_model.specs.Perform as root;
 ghost use Rattle.sl_plain.specs.Outcomes.{change_of};
 ghost use Rattle.sl_plain.specs.Unstables.{write_of};
+ghost use Rattle.sl_plain.specs.Differing.{AreDifferences, ArePlacesOf};
 
 use crate::change::Change;
+use crate::differing::Differences;
 use crate::lines::Lines;
 use crate::names::{Names, Place};
 use crate::nodes::Nodes;
@@ -114,8 +116,15 @@ impl Volume {
         self.unstable.has(file)
     }
 
+    /// The unstable writes, from the oldest on.
+    pub fn unstable(&self) -> &[Pending]
+        ensures { each write_of result.now ≡ self.now.unstable }
+    {
+        self.unstable.as_slice()
+    }
+
     /// The text of a symbolic link.
-    pub(crate) fn text(&self, alloc: Global, fileid: u64) -> Result<Bytes, NoMemory>
+    pub fn text(&self, alloc: Global, fileid: u64) -> Result<Bytes, NoMemory>
         ensures { IfOk result (λ text. text ≡ (volume.sight self.now).text fileid) }
     {
         self.texts.copy_of(alloc, fileid)
@@ -150,12 +159,7 @@ impl Volume {
     }
 
     /// A directory's names behind a cookie, by rising cookie.
-    pub(crate) fn names_behind(
-        &self,
-        alloc: Global,
-        dir: u64,
-        cookie: u64,
-    ) -> Result<Lines, NoMemory>
+    pub fn names_behind(&self, alloc: Global, dir: u64, cookie: u64) -> Result<Lines, NoMemory>
         ensures { IfOk result (λ lines. lines ≡ (volume.sight self.now).names dir cookie) }
     {
         self.names.listing(alloc, dir, cookie)
@@ -180,6 +184,49 @@ impl Volume {
             }
         }
         true
+    }
+
+    /// The names that lead to an object.
+    pub fn places_of(&self, alloc: Global, fileid: u64) -> Result<Vec<Place>, NoMemory>
+        ensures { IfOk result (λ places. ArePlacesOf self.now fileid places.items) }
+    {
+        self.names.leading_to(alloc, fileid)
+    }
+
+    /// Where the volume differs from a later one.
+    pub fn differences(&self, alloc: Global, after: &Volume) -> Result<Differences, NoMemory>
+        ensures { IfOk result (λ differences. AreDifferences self.now after.now differences) }
+    {
+        let mut objects = Vec::new(alloc);
+        self.nodes.put_unlike(&after.nodes, &mut objects)?;
+        after.nodes.put_unlike(&self.nodes, &mut objects)?;
+        self.texts.put_unlike(&after.texts, &mut objects)?;
+        after.texts.put_unlike(&self.texts, &mut objects)?;
+        let mut names = Vec::new(alloc);
+        self.names.put_unlike(alloc, &after.names, &mut names)?;
+        after.names.put_unlike(alloc, &self.names, &mut names)?;
+        let mut bytes = Vec::new(alloc);
+        self.written.put_unlike(&after.written, &mut bytes)?;
+        after.written.put_unlike(&self.written, &mut bytes)?;
+        Ok(Differences {
+            objects,
+            names,
+            bytes,
+        })
+    }
+
+    /// Whether the volumes are equal, with their unstable writes and all fileids that were used.
+    pub fn is_same(&self, other: &Volume) -> bool
+        ensures { (result ≡ true) ↔ (self.now ≡ other.now) }
+    {
+        self.number == other.number
+            && self.verifier == other.verifier
+            && self.nodes.is_same(&other.nodes)
+            && self.names.is_same(&other.names)
+            && self.texts.is_same(&other.texts)
+            && self.written.is_same(&other.written)
+            && self.unstable.is_same(&other.unstable)
+            && self.used.is_same(&other.used)
     }
 
     /// An equal volume, in memory of its own.

@@ -1,7 +1,8 @@
-ghost use Rattle.std.specs.Prelude.{◌≡◌, ◌+◌, ◌^◌, ◌≤◌, length, OnOk, IfOk, unwrap_or};
+ghost use Rattle.std.specs.Prelude.{◌≡◌, ◌↔◌, ◌+◌, ◌^◌, ◌≤◌, true, length, OnOk, IfOk, Some, unwrap_or};
 ghost use Rattle.std.specs.FinMap as map;
 ghost use Rattle.std.specs.Prelude.{map as each};
 ghost use Rattle.sl_plain.specs.Unstables.{write_of};
+ghost use Rattle.sl_plain.specs.Differing.{Gathers, IsOther, IsWithin};
 ghost use Rattle.sl_model.specs.Volume.{cut_at, put_bytes, put_writes};
 
 use crate::pending::Pending;
@@ -99,5 +100,60 @@ impl Written {
             copy.put(place.0, place.1, *byte)?;
         }
         Ok(copy)
+    }
+
+    // The byte that was written at a place, where one was.
+    fn get(&self, place: (u64, u64)) -> Option<u8>
+        ensures { result ≡ map.get self.now place }
+    {
+        match self.entries.get(&place) {
+            Some(byte) => Some(*byte),
+            None => None,
+        }
+    }
+
+    // Whether this byte was written at the place.
+    fn has(&self, place: (u64, u64), byte: u8) -> bool
+        ensures { (result ≡ true) ↔ (map.get self.now place ≡ Some byte) }
+    {
+        self.get(place) == Some(byte)
+    }
+
+    // Whether the other map has each of these bytes.
+    fn is_within(&self, other: &Written) -> bool
+        ensures { (result ≡ true) ↔ IsWithin self.now other.now }
+    {
+        for (place, byte) in self.entries.iter() {
+            if !other.has(*place, *byte) {
+                return false;
+            }
+        }
+        true
+    }
+
+    /// Whether the maps are equal.
+    pub fn is_same(&self, other: &Written) -> bool
+        ensures { (result ≡ true) ↔ (self.now ≡ other.now) }
+    {
+        self.is_within(other) && other.is_within(self)
+    }
+
+    /// Puts the places whose bytes are others in the other map behind the given ones; what was never written is zero.
+    pub(crate) fn put_unlike(
+        &self,
+        other: &Written,
+        unlike: &mut Vec<(u64, u64)>,
+    ) -> Result<(), NoMemory>
+        ensures { OnOk result (Gathers (IsOther other.now) self.now unlike.old.items unlike.new.items) }
+    {
+        for (place, byte) in self.entries.iter() {
+            if other.at(place.0, place.1) == *byte {
+                continue;
+            }
+            let Ok(_) = unlike.push(*place) else {
+                return Err(NoMemory);
+            };
+        }
+        Ok(())
     }
 }

@@ -1,10 +1,9 @@
 -- What a docket knows of a history.
 use Rattle.std.specs.Prelude.{◌≡◌, ◌==◌, ℕ, ◌+◌, ◌<◌, List, [], ◌∷◌, ◌++◌, Option, Some, None, Bool, true, false, length, option_map}
 use Rattle.std.specs.List.{slice_get}
-use Rattle.sl_defs.specs.Histories.{Happening, event_count}
-use Rattle.sl_defs.specs.declared.setup.Time.{Time}
+use Rattle.sl_defs.specs.Histories.{event_count}
 use Rattle.sl_model.specs.Volume.{Volume}
-use Rattle.sl_history.specs.Turns.{Remark, Turn, History, events, so_far, turn_of}
+use Rattle.sl_history.specs.Turns.{Remark, Turn, History, events, turn_of}
 use Rattle.sl_history.specs.Frames.{is_down, is_up}
 use Rattle.sl_history.specs.Arrivals as arrivals
 use Rattle.sl_history.specs.Arrivals.{Asked, answer_to, asked, drops, drops_any}

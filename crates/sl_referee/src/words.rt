@@ -2,37 +2,18 @@
 ghost use Rattle.std.specs.Prelude.{◌≡◌, ◌↔◌, true};
 ghost use Rattle.sl_types.specs.Numbers.{is_ok_status};
 ghost use Rattle.sl_model.specs.Laws.{attr_status, status_of, wcc_status};
-ghost use Rattle.sl_history.specs.Arrivals.{is_changing};
 ghost use Rattle.sl_history.specs.Legal.{NotAfter, is_kept, is_settled};
 
+use sl_datagram::fileid_of;
 use sl_defs::Time;
 use sl_plain::Volume;
-use sl_types::{AttrFault, Call, Handle, Reply, Stable, Status, WccFault};
+use sl_types::{AttrFault, Call, Reply, Stable, Status, WccFault};
 
 /// Whether the first moment isn't after the second.
 pub fn is_not_after(a: Time, b: Time) -> bool
     ensures { (result ≡ true) ↔ NotAfter a b }
 {
     a.sec < b.sec || (a.sec == b.sec && a.nsec <= b.nsec)
-}
-
-/// Whether the call may change something.
-pub fn is_changing(call: &Call) -> bool
-    ensures { result ≡ is_changing call.now }
-{
-    matches!(
-        call,
-        Call::Setattr { .. }
-            | Call::Write { .. }
-            | Call::Create { .. }
-            | Call::Mkdir { .. }
-            | Call::Symlink { .. }
-            | Call::Mknod { .. }
-            | Call::Remove { .. }
-            | Call::Rmdir { .. }
-            | Call::Rename { .. }
-            | Call::Link { .. }
-    )
 }
 
 /// Whether a WRITE's bytes are stable by its reply: it wrote some, and says so (RFC 1813, section 3.3.7).
@@ -110,13 +91,7 @@ pub fn is_settled(volume: &Volume, call: &Call) -> bool
     ensures { result ≡ is_settled volume.now call.now }
 {
     match call {
-        Call::Commit { file, .. } => {
-            let fileid = match Handle::read(file.as_slice()) {
-                Some(handle) => handle.fileid,
-                None => 0,
-            };
-            !volume.is_unstable(fileid)
-        }
+        Call::Commit { file, .. } => !volume.is_unstable(fileid_of(file.as_slice())),
         _ => true,
     }
 }

@@ -1,0 +1,16 @@
+pub mod Histories
+pub mod Keys
+pub mod Flushing
+pub mod Sending
+pub mod Minting
+pub mod Dirtying
+pub mod Crowding
+pub mod Dropping
+pub mod Turning
+pub mod Numbers
+pub mod Saying
+pub mod Noting
+pub mod Flowing
+pub mod Docketing
+pub mod Counting
+pub mod Judging

@@ -1,0 +1,9 @@
+pub mod Words
+pub mod Mints
+pub mod Flushes
+pub mod Asking
+pub mod Dirty
+pub mod Crowds
+pub mod Drops
+pub mod Evidence
+pub mod Dockets

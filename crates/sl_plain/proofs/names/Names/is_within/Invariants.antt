@@ -1,0 +1,9 @@
+use Rattle.std.specs.Prelude.{map as each}
+use Rattle.sl_plain.specs.Maps.{named}
+use Rattle.std.specs.FinMap as map
+use Rattle.sl_plain.proofs.DifferingLaws.{Within}
+use Rattle.sl_plain.proofs.names.Names.is_within.Given as goal
+
+-- those that are left are in the other map exactly if all are
+abbrev pub invariant-loop-place : goal.invariant-loop-place
+invariant-loop-place l = Within l.other (map.entries l.self) (each named l.place-iterator)

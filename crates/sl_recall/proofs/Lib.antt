@@ -1,0 +1,12 @@
+pub mod Walks
+pub mod Fencing
+pub mod ChangeLaws
+pub mod ForgetLaws
+pub mod TellLaws
+pub mod KnownLaws
+pub mod Recalling
+pub mod CountLaws
+pub mod AskingLaws
+pub mod PlaceLaws
+pub mod AnyLaws
+pub mod MemoryLaws
