@@ -136,13 +136,8 @@ def variants(text, source):
             yield name, "\n".join(lines) + "\n"
 
 
-# What the judge asks beyond the claims: in whose event an actor notes a reply or a verifier; that the packet whose bytes a READ's
-# reply has answers that very call; and that an effect of the coordinator was granted as the operation whose Grant it is given.
-BEYOND = re.compile(
-    r"an event of (actor|no actor)"
-    r"|Packet frame \d+ from (\d+) to 0 for arrival \d+, sent in event (\d+); a Packet for \d+ from \2, sent in event \3,"
-    r"|no Grant of that operation from"
-)
+# What the judge asks beyond the claims: in whose event an actor notes a reply or a verifier.
+BEYOND = re.compile(r"an event of (actor|no actor)")
 
 
 def claim_of(category, event, words, last):

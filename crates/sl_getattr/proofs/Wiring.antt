@@ -94,13 +94,13 @@ same_call past t before n = by (is_event past t n)
     by true = refl
     by false = refl
 
-wired_reply : (s : Setup) (past : History) (t : Turn) (e : ℕ) (bytes : List ℕ) (o : Option Asked) → ((a : Asked) → o ≡ Some a → AsksAttributes a) → IsWiredReply s past t e bytes o
-wired_reply s past t e bytes None asks = tt
-wired_reply s past t e bytes (Some a) asks =
+wired_reply : (s : Setup) (past : History) (t : Turn) (n e : ℕ) (bytes : List ℕ) (o : Option Asked) → ((a : Asked) → o ≡ Some a → AsksAttributes a) → IsWiredReply s past t n e bytes o
+wired_reply s past t n e bytes None asks = tt
+wired_reply s past t n e bytes (Some a) asks =
     let get = asks a refl in
-    subst (λ c. IsReadIf s past t e c (read_bytes (results_of a.procedure bytes))) (sym get.1) (any_reading (read_bytes (results_of a.procedure bytes)) get.0)
+    subst (λ c. IsReadIf s past t n e c (read_bytes (results_of a.procedure bytes))) (sym get.1) (any_reading (read_bytes (results_of a.procedure bytes)) get.0)
   where
-    any_reading : (o : Option (List ℕ)) (object : List ℕ) → IsReadIf s past t e (call.Getattr object) o
+    any_reading : (o : Option (List ℕ)) (object : List ℕ) → IsReadIf s past t n e (call.Getattr object) o
     any_reading None object = tt
     any_reading (Some read) object = tt
 
@@ -117,7 +117,7 @@ all_wired s past t before (Sent k f ∷ rs) tale none numbers senders wires = (
   all_wired s past t (before ++ Sent k f ∷ []) rs tale (effects_then before past t (Sent k f) none wires.0) numbers.1 senders.1 wires.1,
 )
 all_wired s past t before (Replied n e bytes ∷ rs) tale none numbers senders wires = (
-  wired_reply s past t e bytes (asked (so_far t before ∷ past) n) (λ a is. wires.0 a (sym (same_call past t before n) ∙ is)),
+  wired_reply s past t n e bytes (asked (so_far t before ∷ past) n) (λ a is. wires.0 a (sym (same_call past t before n) ∙ is)),
   all_wired s past t (before ++ Replied n e bytes ∷ []) rs tale (effects_then before past t (Replied n e bytes) none wires.0) numbers.1 senders.1 wires.1,
 )
 all_wired s past t before (Did n at choice ∷ rs) tale none numbers senders wires = absurd wires.0

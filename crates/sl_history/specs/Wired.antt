@@ -172,20 +172,27 @@ pub record IsServedBy (past : History) (t : Turn) (server : ℕ) (packet : List 
 abbrev pub given_event : History → Happening → Option ℕ
 given_event past x = option_and_then (event_of_sending past) (given_number x)
 
--- The bytes of a READ come from the server of its offset, in an answer that was sent in event e.
-pub record IsRead (setup : Setup) (past : History) (t : Turn) (e f offset : ℕ) (bytes : List ℕ) : Type 0 where
+-- The proxy is given the answer to the request of event n's call, by the server of this byte.
+pub record IsPacketFor (setup : Setup) (past : History) (t : Turn) (n f offset : ℕ) : Type 0 where
   pub packet : List ℕ
   pub served : IsServedBy past t (byte_server setup f offset) packet
+  pub asking : Frame
+  pub is : request past served.answer.fence served.answer.tag ≡ Some asking
+  pub arrival : asking.arrival ≡ n
+
+-- The bytes of a READ come from the server of its offset, in an answer that was sent in event e.
+pub record IsRead (setup : Setup) (past : History) (t : Turn) (n e f offset : ℕ) (bytes : List ℕ) : Type 0 where
+  pub answer : IsPacketFor setup past t n f offset
   pub sent : given_event past t.happening ≡ Some e
-  pub same : read_bytes (results_of 6 packet) ≡ Some bytes
+  pub same : read_bytes (results_of 6 answer.packet) ≡ Some bytes
 
-abbrev pub IsReadIf : Setup → History → Turn → ℕ → Call → Option (List ℕ) → Type 0
-IsReadIf setup past t e (call.Read file offset count) (Some bytes) = IsRead setup past t e (fileid_of (handle_of file)) offset bytes
-IsReadIf setup past t e other read = Unit {0}
+abbrev pub IsReadIf : Setup → History → Turn → ℕ → ℕ → Call → Option (List ℕ) → Type 0
+IsReadIf setup past t n e (call.Read file offset count) (Some bytes) = IsRead setup past t n e (fileid_of (handle_of file)) offset bytes
+IsReadIf setup past t n e other read = Unit {0}
 
-abbrev pub IsWiredReply : Setup → History → Turn → ℕ → List ℕ → Option Asked → Type 0
-IsWiredReply setup past t e bytes None = Unit {0}
-IsWiredReply setup past t e bytes (Some a) = IsReadIf setup past t e a.call (read_bytes (results_of a.procedure bytes))
+abbrev pub IsWiredReply : Setup → History → Turn → ℕ → ℕ → List ℕ → Option Asked → Type 0
+IsWiredReply setup past t n e bytes None = Unit {0}
+IsWiredReply setup past t n e bytes (Some a) = IsReadIf setup past t n e a.call (read_bytes (results_of a.procedure bytes))
 
 -- ---- where an effect stands
 
@@ -212,9 +219,19 @@ pub record HasGranted (h : History) (op server : ℕ) : Type 0 where
   pub sender : grant.from ≡ server
   pub operation : grant.op ≡ op
 
--- each server of a cell or byte that differs granted the operation
-pub record IsGranted (setup : Setup) (h : History) (v w : Volume) : Type 0 where
+-- the operation that a frame grants
+abbrev pub operation_in : Frame → Body → Option ℕ
+operation_in f body.Grant = Some f.op
+operation_in f other = None
+
+abbrev pub granted_by : Option Frame → Option ℕ
+granted_by None = None
+granted_by (Some f) = operation_in f f.body
+
+-- each server of a cell or byte that differs granted one operation: the one whose Grant is given now, where one is
+pub record IsGranted (setup : Setup) (past : History) (t : Turn) (h : History) (v w : Volume) : Type 0 where
   pub op : ℕ
+  pub now : (granted : ℕ) → granted_by (reaches past t) ≡ Some granted → op ≡ granted
   pub cells : (k : Key) → Differs v w k → HasGranted h op (key_server setup k)
   pub bytes : (f at : ℕ) → DiffersAt v w f at → HasGranted h op (byte_server setup f at)
 
@@ -222,18 +239,10 @@ pub record IsGranted (setup : Setup) (h : History) (v w : Volume) : Type 0 where
 -- directory server where all of it lies.
 abbrev pub StandsRightly : Setup → History → Turn → History → Volume → Volume → Type 0
 StandsRightly setup past t h v w =
-    ((acts past t.happening 1 ≡ true) × IsGranted setup h v w)
+    ((acts past t.happening 1 ≡ true) × IsGranted setup past t h v w)
     ⊎ ((server : ℕ) × (is_directory server ≡ true) × (acts past t.happening server ≡ true) × LiesWith setup v w server)
 
--- ---- a WRITE that stays unstable
-
--- the answer of event n's request
-pub record IsPacketFor (setup : Setup) (past : History) (t : Turn) (n f offset : ℕ) : Type 0 where
-  pub packet : List ℕ
-  pub served : IsServedBy past t (byte_server setup f offset) packet
-  pub asking : Frame
-  pub is : request past served.answer.fence served.answer.tag ≡ Some asking
-  pub arrival : asking.arrival ≡ n
+-- ---- effects and flushes
 
 -- Each effect that changes something: an unstable WRITE by its server's answer, all else where it stands.
 abbrev pub IsWiredEffect : Setup → History → Turn → History → Volume → Volume → ℕ → Bool → Call → Type 0
@@ -257,13 +266,13 @@ IsWiredDidIf setup past t h v w n choice (Some a) = IsWiredDid setup past t h v 
 -- a flush is noted by the coordinator
 pub record IsWiredFlush (setup : Setup) (past : History) (t : Turn) (h : History) (v w : Volume) : Type 0 where
   pub coordinator : acts past t.happening 1 ≡ true
-  pub granted : IsGranted setup h v w
+  pub granted : IsGranted setup past t h v w
 
 -- ---- the notes of a turn
 
 abbrev pub MayNote : Setup → Volume → History → Turn → History → Remark → Type 0
 MayNote setup start past t h (Sent k f) = IsSent start past t h k f
-MayNote setup start past t h (Replied n e bytes) = IsWiredReply setup past t e bytes (asked h n)
+MayNote setup start past t h (Replied n e bytes) = IsWiredReply setup past t n e bytes (asked h n)
 MayNote setup start past t h (Did n at choice) =
     IsWiredDidIf setup past t (t ∷ past) (volume_after start h) (after_note h (Did n at choice) (volume_after start h)) n choice (asked h n)
 MayNote setup start past t h (Flush f) =

@@ -119,6 +119,7 @@ stands = record {
     refl,
     record {
       op = 1;
+      now = λ granted is. ap (λ o. unwrap_or o 0) is;
       cells = λ k differs. subst (HasGranted with_decision 1) (sym (key_lies k)) directory_granted;
       bytes = λ f at differs. subst (HasGranted with_decision 1) (sym (lies_small f at (eq_by_cmp place_cmp (f, at) (2, 1)) (eq_by_cmp place_cmp (f, at) (2, 0)) refl refl differs)) small_granted;
     },

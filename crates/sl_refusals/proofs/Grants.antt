@@ -8,16 +8,17 @@ use Rattle.sl_types.specs.Handles.{form_text}
 use Rattle.sl_items.specs.Reading.{fh_at, bytes_at, stable_at}
 use Rattle.sl_calls.specs.Reading.{args_at, write_at}
 use Rattle.sl_calls.specs.Args.{args_text}
+use Rattle.sl_defs.specs.declared.event.Event.TheVariants as event
 use Rattle.sl_frames.specs.declared.body.Body.TheVariants as body
 use Rattle.sl_model.specs.Volume.{place_cmp, flush}
-use Rattle.sl_history.specs.Turns.{Flush, History, turn_of}
+use Rattle.sl_history.specs.Turns.{Sent, Flush, Turn, History, turn_of}
 use Rattle.sl_history.specs.Frames.{is_up, frame, in_flight}
 use Rattle.sl_history.specs.Arrivals.{datagram, asked}
 use Rattle.sl_history.specs.Volumes.{volume_after}
 use Rattle.sl_history.specs.Licensed.{request}
 use Rattle.sl_history.specs.Placing.{carrier, byte_server}
 use Rattle.sl_history.specs.Wired.{Wired, IsGranted, HasGranted, DiffersAt, frames}
-use Rattle.sl_examples.specs.Histories.{setup}
+use Rattle.sl_examples.specs.Histories.{setup, turn}
 use Rattle.sl_refusals.specs.Volumes.{filed}
 use Rattle.sl_refusals.specs.Frames.{reports}
 use Rattle.sl_refusals.specs.Grants.{locking, granted_by_first, granted_by_both}
@@ -94,24 +95,32 @@ first_is_wired = (
   record { flying = refl; may = tt; told = tt },
 )
 
+abbrev granted_past : History
+granted_past = turn (event.Give 7) (Sent 9 (reports 1 32 body.Grant) ∷ []) ∷ granted_by_first []
+
+abbrev granted_turn : Turn
+granted_turn = turn (event.Give 9) (Flush 2 ∷ [])
+
 abbrev full : History
 full = granted_by_both (Flush 2 ∷ [])
 
 first_granted : HasGranted full 1 16
 unfolding frame is_up
-first_granted = record { grant = reports 16 body.Grant; given = inr (inr (inl (record { gives = refl; up = refl }))); kind = refl; receiver = refl; sender = refl; operation = refl }
+first_granted = record { grant = reports 1 16 body.Grant; given = inr (inr (inl (record { gives = refl; up = refl }))); kind = refl; receiver = refl; sender = refl; operation = refl }
 
 second_granted : HasGranted full 1 32
 unfolding frame is_up
-second_granted = record { grant = reports 32 body.Grant; given = inl (record { gives = refl; up = refl }); kind = refl; receiver = refl; sender = refl; operation = refl }
+second_granted = record { grant = reports 1 32 body.Grant; given = inl (record { gives = refl; up = refl }); kind = refl; receiver = refl; sender = refl; operation = refl }
 
 byte_granted : (f at : ℕ) → DiffersAt dirty (flush 2 dirty) f at → HasGranted full 1 (byte_server setup f at)
 unfolding carrier
 byte_granted f at differ = subst (λ (p : ℕ × ℕ). HasGranted full 1 (byte_server setup p.0 p.1)) (sym (place_is f at _ refl differ)) second_granted
 
-is_granted : IsGranted setup full written (flush 2 written)
-is_granted = subst (λ p. IsGranted setup full p.0 (flush 2 p.0)) (sym write_makes) (record {
+is_granted : IsGranted setup granted_past granted_turn full written (flush 2 written)
+unfolding frame is_up
+is_granted = subst (λ p. IsGranted setup granted_past granted_turn full p.0 (flush 2 p.0)) (sym write_makes) (record {
   op = 1;
+  now = λ granted is. ap (λ o. unwrap_or o 0) is;
   cells = λ k differ. subst (HasGranted full 1) (sym (cells_lie k)) first_granted;
   bytes = byte_granted;
 })

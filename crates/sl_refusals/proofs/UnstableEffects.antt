@@ -1,5 +1,5 @@
 -- Wired histories and others, by computing: a WRITE that stays unstable.
-use Rattle.std.proofs.Common.{◌≡◌, ◌≢◌, ℕ, length, refl, sym, ap, ◌∙◌, [], ◌∷◌, Option, Some, None, inl, true≢false, is_some, arith}
+use Rattle.std.proofs.Common.{◌≡◌, ◌≢◌, ℕ, length, refl, sym, ap, ◌∙◌, [], ◌∷◌, Some, None, inl, true≢false, is_some, arith}
 use Rattle.std.specs.FinMap.{get}
 use Rattle.sl_defs.specs.Items.{u32_text, u64_text, u32_at, u64_at, opaque_at, opaque_text}
 use Rattle.sl_defs.specs.Rpc.{call_header_at, auth_at, zero_at, refusal_of, accepted_text}
@@ -8,27 +8,26 @@ use Rattle.sl_types.specs.declared.call.Stable.TheVariants as stable
 use Rattle.sl_items.specs.Reading.{fh_at, bytes_at, stable_at}
 use Rattle.sl_calls.specs.Reading.{args_at, write_at}
 use Rattle.sl_calls.specs.Args.{args_text}
-use Rattle.sl_frames.specs.declared.frame.Frame.{Frame}
 use Rattle.sl_rpc.specs.Heads.{nobody}
 use Rattle.sl_model.specs.declared.node.Node.{Node}
 use Rattle.sl_model.specs.Volume.{Volume}
 use Rattle.sl_model.specs.Perform.{perform}
-use Rattle.sl_history.specs.Turns.{Did, Turn, History, turn_of}
+use Rattle.sl_history.specs.Turns.{Did, turn_of}
 use Rattle.sl_history.specs.Frames.{is_up, frame, in_flight}
 use Rattle.sl_history.specs.Arrivals.{datagram, asked}
 use Rattle.sl_history.specs.Volumes.{volume_after}
 use Rattle.sl_history.specs.Legal.{no_choice}
-use Rattle.sl_history.specs.Licensed.{request, reaches}
+use Rattle.sl_history.specs.Licensed.{request}
 use Rattle.sl_history.specs.Placing.{carrier}
-use Rattle.sl_history.specs.Wired.{Wired, IsPacketFor, frames}
+use Rattle.sl_history.specs.Wired.{Wired, frames}
 use Rattle.sl_examples.specs.Histories.{setup, epoch}
 use Rattle.sl_refusals.specs.Packets.{write}
 use Rattle.sl_refusals.specs.Volumes.{filed}
-use Rattle.sl_refusals.specs.Bytes.{replied, done_then, ReadBytesAreToldApart, UnstableEffectsAreToldApart}
+use Rattle.sl_refusals.specs.Bytes.{done_then, UnstableEffectsAreToldApart}
 use Rattle.sl_refusals.specs.Bytes as bytes
 use Rattle.sl_refusals.proofs.Requests.{welcomed_is_wired}
 use Rattle.sl_refusals.proofs.Commits.{before, write_makes}
-use Rattle.sl_refusals.proofs.ServedBytes.{not_served}
+use Rattle.sl_refusals.proofs.ServedBytes.{is_for, not_served}
 
 -- ---- a WRITE that stays unstable
 
@@ -91,18 +90,6 @@ done_right = (
 by_another_server : Wired setup filed (done_then (bytes.write_at 48 3 [])) → ⊥
 unfolding frame is_up volume_after carrier asked turn_of datagram call_header_at u32_text u32_at u64_text u64_at opaque_at opaque_text auth_at zero_at refusal_of accepted_text args_at write_at stable_at bytes_at fh_at args_text form_text form_at magic_at handle_of
 by_another_server wired = absurd (omega (arith, not_served _ _ 32 _ 48 refl (wired.1.may.0.stands it_changes).served))
-
-abbrev arrival_of : Option Frame → ℕ
-arrival_of None = 0
-arrival_of (Some f) = f.arrival
-
--- the call of the request that is answered
-abbrev asked_by : History → Option Frame → ℕ
-asked_by past None = 0
-asked_by past (Some f) = arrival_of (request past f.fence f.tag)
-
-is_for : (past : History) (t : Turn) (n f offset arrival : ℕ) → asked_by past (reaches past t) ≡ arrival → IsPacketFor setup past t n f offset → arrival ≡ n
-is_for past t n f offset arrival is x = sym is ∙ (ap (asked_by past) x.served.given ∙ (ap arrival_of x.is ∙ x.arrival))
 
 for_another_call : Wired setup filed (done_then (bytes.write_at 32 2 [])) → ⊥
 unfolding frame is_up request volume_after carrier asked turn_of datagram call_header_at u32_text u32_at u64_text u64_at opaque_at opaque_text auth_at zero_at refusal_of accepted_text args_at write_at stable_at bytes_at fh_at args_text form_text form_at magic_at handle_of

@@ -20,25 +20,25 @@ use Rattle.sl_refusals.specs.Frames.{request, answer}
 abbrev pub gives : List ℕ → Reply
 gives bytes = reply.Read (Ok (record { attributes = Some (attributes sized); count = 1; eof = true; bytes = bytes }))
 
--- a server is asked in event 3, and gives bytes in event 4
-abbrev pub read_at : ℕ → List ℕ → History
-read_at server bytes =
+-- a server is asked in event 3, for the call of an event, and gives bytes in event 4
+abbrev pub read_at : ℕ → ℕ → List ℕ → History
+read_at server arrival bytes =
     turn (event.Give 3) (Sent 4 (answer server 1 (body.Packet (reply_packet 1 (gives bytes)))) ∷ [])
-    ∷ turn (event.Call 0 (asks (read 0))) (Sent 3 (request server 1 3 (body.Forward 0 (call_packet 1 (read server)))) ∷ []) ∷ welcomed
+    ∷ turn (event.Call 0 (asks (read 0))) (Sent 3 (request server 1 arrival (body.Forward 0 (call_packet 1 (read server)))) ∷ []) ∷ welcomed
 
 abbrev pub replied : ℕ → List ℕ → History → History
 replied e bytes past = turn (event.Give 4) (Replied 3 e (answers (gives bytes)) ∷ []) ∷ past
 
 -- before the proxy is given the server's answer
 abbrev pub replied_before : History
-replied_before = turn event.Tick (Replied 3 4 (answers (gives (120 ∷ []))) ∷ []) ∷ read_at 32 (120 ∷ [])
+replied_before = turn event.Tick (Replied 3 4 (answers (gives (120 ∷ []))) ∷ []) ∷ read_at 32 3 (120 ∷ [])
 
--- The reply to a READ has the bytes that the server of its offset gave, and names the event in which it did.
+-- The reply to a READ has the bytes that the server of its offset gave for this call, and names the event in which it did.
 abbrev pub ReadBytesAreToldApart : Type 0
 ReadBytesAreToldApart =
-    Wired setup filed (replied 4 (120 ∷ []) (read_at 32 (120 ∷ []))) × (Wired setup filed (replied 4 (120 ∷ []) (read_at 48 (120 ∷ []))) → ⊥)
-    × (Wired setup filed (replied 5 (120 ∷ []) (read_at 32 (120 ∷ []))) → ⊥) × (Wired setup filed (replied 4 (121 ∷ []) (read_at 32 (120 ∷ []))) → ⊥)
-    × (Wired setup filed replied_before → ⊥)
+    Wired setup filed (replied 4 (120 ∷ []) (read_at 32 3 (120 ∷ []))) × (Wired setup filed (replied 4 (120 ∷ []) (read_at 48 3 (120 ∷ []))) → ⊥)
+    × (Wired setup filed (replied 5 (120 ∷ []) (read_at 32 3 (120 ∷ []))) → ⊥) × (Wired setup filed (replied 4 (121 ∷ []) (read_at 32 3 (120 ∷ []))) → ⊥)
+    × (Wired setup filed (replied 4 (120 ∷ []) (read_at 32 2 (120 ∷ []))) → ⊥) × (Wired setup filed replied_before → ⊥)
 
 -- ---- a WRITE at offset 0 that stays unstable
 

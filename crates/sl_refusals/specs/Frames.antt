@@ -19,12 +19,12 @@ request to tag arrival b = record { from = 0; to = to; fence = fence; tag = tag;
 abbrev pub answer : ℕ → ℕ → Body → Frame
 answer from tag b = record { from = from; to = 0; fence = fence; tag = tag; low = 0; op = 0; boot = 0; arrival = 0; «body» = b }
 
--- what the coordinator asks of a server for the first operation, and the server's answer
-abbrev pub order : ℕ → Body → Frame
-order to b = record { from = 1; to = to; fence = fence; tag = 0; low = 0; op = 1; boot = 0; arrival = 0; «body» = b }
+-- what the coordinator asks of a server for an operation, and the server's answer
+abbrev pub order : ℕ → ℕ → Body → Frame
+order op to b = record { from = 1; to = to; fence = fence; tag = 0; low = 0; op = op; boot = 0; arrival = 0; «body» = b }
 
-abbrev pub reports : ℕ → Body → Frame
-reports from b = record { from = from; to = 1; fence = fence; tag = 0; low = 0; op = 1; boot = 0; arrival = 0; «body» = b }
+abbrev pub reports : ℕ → ℕ → Body → Frame
+reports op from b = record { from = from; to = 1; fence = fence; tag = 0; low = 0; op = op; boot = 0; arrival = 0; «body» = b }
 
 -- ---- the flush of the file: its attributes lie with server 16, and its byte with server 32
 

@@ -20,7 +20,7 @@ sent k f = turn (event.Give 1) (Sent k f ∷ []) ∷ opened
 
 -- the coordinator is down, and asks for a lock all the same
 abbrev pub sent_down : History
-sent_down = turn (event.Give 1) (Sent 2 (order 16 (body.Lock put_attributes)) ∷ []) ∷ turn (event.Stop 1 0) [] ∷ opened
+sent_down = turn (event.Give 1) (Sent 2 (order 1 16 (body.Lock put_attributes)) ∷ []) ∷ turn (event.Stop 1 0) [] ∷ opened
 
 -- Frames are numbered one after another, and sent by the actor whose event it is, while it is up.
 abbrev pub SendersAreToldApart : Type 0

@@ -127,7 +127,7 @@ pub fn quiet_files_are_told_apart()
     ensures { QuietFilesAreToldApart }
 {}
 
-/// The reply to a READ has the bytes that the server of its offset gave, and names the event in which it did.
+/// The reply to a READ has the bytes that the server of its offset gave for this call, and names the event in which it did.
 pub fn read_bytes_are_told_apart()
     ensures { ReadBytesAreToldApart }
 {}
@@ -148,7 +148,7 @@ pub fn sites_are_told_apart()
     ensures { SitesAreToldApart }
 {}
 
-/// A flush is noted by the coordinator, once each server of what becomes stable has granted it.
+/// A flush is noted by the coordinator, once each server of what becomes stable has granted it, and not for another operation.
 pub fn grants_are_told_apart()
     ensures { GrantsAreToldApart }
 {}

@@ -39,10 +39,11 @@ answered_is past x m f o reach e = e ∙ ap (option_map arrival_of) (request_beg
 
 -- ---- a note that is taken
 
-pub newest_over : (past : History) (t : Turn) (rs : List Remark) (d e : Docket) → e.actor ≡ d.actor → e.answered ≡ d.answered → IsNewest past t d → IsNewest past (so_far t rs) e
-newest_over past t rs d e actor answered is = record {
+pub newest_over : (past : History) (t : Turn) (rs : List Remark) (d e : Docket) → e.actor ≡ d.actor → e.answered ≡ d.answered → e.granted ≡ d.granted → IsNewest past t d → IsNewest past (so_far t rs) e
+newest_over past t rs d e actor answered granted is = record {
   actor = λ a. subst (λ (o : Option ℕ). acts past t.happening a ≡ is_this a o) (sym actor) (is.actor a);
   answered = answered ∙ is.answered;
+  granted = granted ∙ is.granted;
 }
 
 -- ---- who may send

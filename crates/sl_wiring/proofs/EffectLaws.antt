@@ -1,6 +1,6 @@
 -- Where an effect stands, by the servers of what changes.
 use Rattle.std.proofs.Common.{◌≡◌, ℕ, Bool, true, false, List, Option, Some, None, refl, ap, sym, subst, ◌∙◌, inl, inr, ◌⊎◌}
-use Rattle.std.specs.Prelude.{if◌then◌else◌, option_map}
+use Rattle.std.specs.Prelude.{if◌then◌else◌}
 use Rattle.std.specs.List.{All, Contains}
 use Rattle.std.proofs.lemmas.Bool.{eq-eqb, eqb-true}
 use Rattle.std.proofs.lemmas.List.Elements.{All-contains}
@@ -11,16 +11,15 @@ use Rattle.sl_frames.specs.declared.body.Body.{Body}
 use Rattle.sl_frames.specs.declared.body.Body.TheVariants as body
 use Rattle.sl_model.specs.Volume.{Volume}
 use Rattle.sl_history.specs.Turns.{Turn, History}
-use Rattle.sl_history.specs.Licensed.{reaches, request}
+use Rattle.sl_history.specs.Licensed.{reaches}
 use Rattle.sl_history.specs.Placing.{byte_server, key_server}
-use Rattle.sl_history.specs.Wired.{HasGranted, IsGranted, IsPacketFor, LiesWith, StandsRightly, acts}
+use Rattle.sl_history.specs.Wired.{HasGranted, IsGranted, LiesWith, StandsRightly, acts, granted_by}
 use Rattle.sl_wiring.specs.declared.grants.Grant.{Grant}
 use Rattle.sl_wiring.specs.declared.grants.Grants.{Grants}
-use Rattle.sl_wiring.specs.Dockets.{IsActorOf, answered_by, arrival_of, is_this}
+use Rattle.sl_wiring.specs.Dockets.{IsActorOf, is_this}
 use Rattle.sl_wiring.specs.Given.{AreGrantsIn, GrantOne, WasGranted, granted_in}
-use Rattle.sl_wiring.specs.Served.{served_by}
 use Rattle.sl_wiring.specs.Standing.{AreServersOf, directory_in}
-use Rattle.sl_wiring.proofs.Serving.{is_served, some_is, was_served}
+use Rattle.sl_wiring.proofs.Serving.{some_is}
 use Rattle.sl_wiring.proofs.Standings.{all_of}
 
 -- ---- grants
@@ -71,9 +70,11 @@ was_granted h op server has = record {
       ∙ ap (λ n. Some (record { op = n; server = has.grant.from })) has.operation ∙ ap (λ n. Some (record { op = op; server = n })) has.sender;
 }
 
-pub all_granted : (setup : Setup) (h : History) (v w : Volume) (servers : List ℕ) (grants : Grants) → AreServersOf setup v w servers → AreGrantsIn h grants → GrantOne grants servers → IsGranted setup h v w
-all_granted setup h v w servers grants are in_h one = record {
+pub all_granted : (setup : Setup) (past : History) (t : Turn) (h : History) (v w : Volume) (servers : List ℕ) (grants : Grants) (given : Option ℕ) → AreServersOf setup v w servers → AreGrantsIn h grants
+    → given ≡ granted_by (reaches past t) → GrantOne grants given servers → IsGranted setup past t h v w
+all_granted setup past t h v w servers grants given are in_h is one = record {
   op = one.op;
+  now = λ granted reach. one.now granted (is ∙ reach);
   cells = λ k differs. granted (key_server setup k) ((are (key_server setup k)).1 (inl (record { key = k; differs = differs; lies = refl })));
   bytes = λ f at differs. granted (byte_server setup f at) ((are (byte_server setup f at)).1 (inr (record { file = f; offset = at; differs = differs; lies = refl })));
 }
@@ -81,8 +82,9 @@ all_granted setup h v w servers grants are in_h one = record {
     granted : (s : ℕ) → Contains servers s → HasGranted h one.op s
     granted s has = has_granted h one.op s ((in_h (record { op = one.op; server = s })).0 (All-contains (λ server. Contains grants.items.keys (record { op = one.op; server = server })) servers s one.each has))
 
-pub one_granted : (setup : Setup) (h : History) (v w : Volume) (servers : List ℕ) (grants : Grants) → AreServersOf setup v w servers → AreGrantsIn h grants → IsGranted setup h v w → GrantOne grants servers
-one_granted setup h v w servers grants are in_h is = record { op = is.op; each = all_of (λ server. Contains grants.items.keys (record { op = is.op; server = server })) servers each }
+pub one_granted : (setup : Setup) (past : History) (t : Turn) (h : History) (v w : Volume) (servers : List ℕ) (grants : Grants) (given : Option ℕ) → AreServersOf setup v w servers → AreGrantsIn h grants
+    → given ≡ granted_by (reaches past t) → IsGranted setup past t h v w → GrantOne grants given servers
+one_granted setup past t h v w servers grants given are in_h same is = record { op = is.op; now = λ granted e. is.now granted (sym same ∙ e); each = all_of (λ server. Contains grants.items.keys (record { op = is.op; server = server })) servers each }
   where
     has : (s : ℕ) → HasGranted h is.op s → Contains grants.items.keys (record { op = is.op; server = s })
     has s granted = (in_h (record { op = is.op; server = s })).1 (was_granted h is.op s granted)
@@ -135,9 +137,10 @@ is_directory_in actor server is same = ap directory_in same ∙ ap (λ b. if b t
 
 -- ---- where it stands
 
-pub stands_granted : (setup : Setup) (past : History) (t : Turn) (h : History) (v w : Volume) (servers : List ℕ) (grants : Grants) (actor : Option ℕ) → IsActorOf past t actor
-    → AreServersOf setup v w servers → AreGrantsIn h grants → (actor ≡ Some 1) × GrantOne grants servers → StandsRightly setup past t h v w
-stands_granted setup past t h v w servers grants actor is are in_h both = inl (is_acting past t actor 1 is both.0, all_granted setup h v w servers grants are in_h both.1)
+pub stands_granted : (setup : Setup) (past : History) (t : Turn) (h : History) (v w : Volume) (servers : List ℕ) (grants : Grants) (actor given : Option ℕ) → IsActorOf past t actor
+    → given ≡ granted_by (reaches past t) → AreServersOf setup v w servers → AreGrantsIn h grants → (actor ≡ Some 1) × GrantOne grants given servers → StandsRightly setup past t h v w
+stands_granted setup past t h v w servers grants actor given is same are in_h both =
+    inl (is_acting past t actor 1 is both.0, all_granted setup past t h v w servers grants given are in_h same both.1)
 
 pub stands_alone : (setup : Setup) (past : History) (t : Turn) (h : History) (v w : Volume) (servers : List ℕ) (actor : Option ℕ) (server : ℕ) → IsActorOf past t actor → AreServersOf setup v w servers
     → directory_in actor ≡ Some server → All (λ other. other ≡ server) servers → StandsRightly setup past t h v w
@@ -145,29 +148,10 @@ stands_alone setup past t h v w servers actor server is are directory all =
     let acting = directory_is actor server directory in
     inr (server, acting.0, is_acting past t actor server is acting.1, lies_all setup v w servers server are all)
 
-pub stood : (setup : Setup) (past : History) (t : Turn) (h : History) (v w : Volume) (servers : List ℕ) (grants : Grants) (actor : Option ℕ) → IsActorOf past t actor → AreServersOf setup v w servers
-    → AreGrantsIn h grants → StandsRightly setup past t h v w
-    → ((actor ≡ Some 1) × GrantOne grants servers) ⊎ ((server : ℕ) × ((directory_in actor ≡ Some server) × All (λ other. other ≡ server) servers))
-stood setup past t h v w servers grants actor is are in_h (inl granted) = inl (acting_is past t actor 1 is granted.0, one_granted setup h v w servers grants are in_h granted.1)
-stood setup past t h v w servers grants actor is are in_h (inr (server, directory, acting, lies)) =
+pub stood : (setup : Setup) (past : History) (t : Turn) (h : History) (v w : Volume) (servers : List ℕ) (grants : Grants) (actor given : Option ℕ) → IsActorOf past t actor
+    → given ≡ granted_by (reaches past t) → AreServersOf setup v w servers → AreGrantsIn h grants → StandsRightly setup past t h v w
+    → ((actor ≡ Some 1) × GrantOne grants given servers) ⊎ ((server : ℕ) × ((directory_in actor ≡ Some server) × All (λ other. other ≡ server) servers))
+stood setup past t h v w servers grants actor given is same are in_h (inl granted) =
+    inl (acting_is past t actor 1 is granted.0, one_granted setup past t h v w servers grants given are in_h same granted.1)
+stood setup past t h v w servers grants actor given is same are in_h (inr (server, directory, acting, lies)) =
     inr (server, (is_directory_in actor server directory (acting_is past t actor server is acting), all_lie setup v w servers server are lies))
-
--- ---- a WRITE that isn't kept
-
-answered_asking : (past : History) (f : Frame) (n : ℕ) (o : Option Frame) → request past f.fence f.tag ≡ o → option_map arrival_of o ≡ Some n → (asking : Frame) × ((request past f.fence f.tag ≡ Some asking) × (asking.arrival ≡ n))
-answered_asking past f n None is e = cc
-answered_asking past f n (Some asking) is e = (asking, (is, some_is asking.arrival n e))
-
-pub packet_for : (setup : Setup) (past : History) (t : Turn) (n f offset : ℕ) (packet : List ℕ) (answered : Option ℕ) → served_by past t (byte_server setup f offset) ≡ Some packet
-    → answered ≡ answered_by past (reaches past t) → answered ≡ Some n → IsPacketFor setup past t n f offset
-packet_for setup past t n f offset packet answered served is same =
-    let by = is_served past t (byte_server setup f offset) packet served in
-    let asking = answered_asking past by.answer n (request past by.answer.fence by.answer.tag) refl (sym (ap (answered_by past) by.given) ∙ sym is ∙ same) in
-    record { packet = packet; served = by; asking = asking.0; is = asking.1.0; arrival = asking.1.1 }
-
-pub served_for : (setup : Setup) (past : History) (t : Turn) (n f offset : ℕ) (is : IsPacketFor setup past t n f offset) → served_by past t (byte_server setup f offset) ≡ Some is.packet
-served_for setup past t n f offset is = was_served past t (byte_server setup f offset) is.packet is.served
-
-pub answered_for : (setup : Setup) (past : History) (t : Turn) (n f offset : ℕ) (answered : Option ℕ) → answered ≡ answered_by past (reaches past t) → IsPacketFor setup past t n f offset → answered ≡ Some n
-answered_for setup past t n f offset answered is for =
-    is ∙ ap (answered_by past) for.served.given ∙ ap (option_map arrival_of) for.is ∙ ap (λ (k : ℕ). Some k) for.arrival

@@ -17,9 +17,9 @@ use Rattle.sl_wiring.proofs.Givens.{grants_under}
 use Rattle.sl_wiring.proofs.Saying.{says_bool}
 use Rattle.sl_wiring.proofs.Serving.{some_is}
 
--- the docket's actor is the coordinator, and the servers granted one operation
+-- the docket's actor is the coordinator, and the servers granted one operation, which is the one granted now, if one is
 abbrev pub IsGrantedBy : Docket → List ℕ → Type 0
-IsGrantedBy d xs = (d.actor ≡ Some 1) × GrantOne d.given.grants xs
+IsGrantedBy d xs = (d.actor ≡ Some 1) × GrantOne d.given.grants d.granted xs
 
 servers_of : (setup : Setup) (start : Volume) (h : History) (d : Docket) (v w : Volume) (servers : List ℕ) → IsDocketOf setup start h d → AreServersOf d.setup v w servers → AreServersOf setup v w servers
 servers_of setup start h d v w servers is are = subst (λ (s : Setup). AreServersOf s v w servers) is.setup_is are
@@ -30,7 +30,7 @@ grants_in setup start t past before d is = grants_under t past before d.given.gr
 pub scene_granted : (setup : Setup) (start : Volume) (t : Turn) (past : History) (before : List Remark) (d : Docket) (v w : Volume) (servers xs : List ℕ) → IsDocketOf setup start (so_far t before ∷ past) d
     → AreServersOf d.setup v w servers → xs ≡ servers → IsGrantedBy d xs → StandsRightly setup past t (t ∷ past) v w
 scene_granted setup start t past before d v w servers xs is are same granted =
-    stands_granted setup past t (t ∷ past) v w servers d.given.grants d.actor is.newest.actor (servers_of setup start (so_far t before ∷ past) d v w servers is are)
+    stands_granted setup past t (t ∷ past) v w servers d.given.grants d.actor d.granted is.newest.actor is.newest.granted (servers_of setup start (so_far t before ∷ past) d v w servers is are)
     (grants_in setup start t past before d is) (subst (λ (ys : List ℕ). IsGrantedBy d ys) same granted)
 
 pub scene_alone : (setup : Setup) (start : Volume) (t : Turn) (past : History) (before : List Remark) (d : Docket) (v w : Volume) (servers xs : List ℕ) (server : ℕ)
@@ -45,7 +45,7 @@ pub scene_wrong : (setup : Setup) (start : Volume) (t : Turn) (past : History) (
     → IsDocketOf setup start (so_far t before ∷ past) d → AreServersOf d.setup v w servers → xs ≡ servers → (IsGrantedBy d xs → ⊥)
     → ((server : ℕ) → directory_in d.actor ≡ Some server → All (λ other. other ≡ server) xs → ⊥) → StandsRightly setup past t (t ∷ past) v w → ⊥
 scene_wrong setup start t past before d v w servers xs is are same granted alone stands =
-    elim (stood setup past t (t ∷ past) v w servers d.given.grants d.actor is.newest.actor (servers_of setup start (so_far t before ∷ past) d v w servers is are)
+    elim (stood setup past t (t ∷ past) v w servers d.given.grants d.actor d.granted is.newest.actor is.newest.granted (servers_of setup start (so_far t before ∷ past) d v w servers is are)
     (grants_in setup start t past before d is) stands) [
       | inl both ↦ granted (subst (λ (ys : List ℕ). IsGrantedBy d ys) (sym same) both)
       | inr (server, parts) ↦ alone server parts.0 (subst (λ (ys : List ℕ). All (λ other. other ≡ server) ys) (sym same) parts.1)
@@ -80,8 +80,11 @@ scene_flush E setup start t past before d v w servers xs b is are same both =
     yes_ : IsGrantedBy d servers → IsWiredFlush setup past t (t ∷ past) v w
     yes_ granted = record {
       coordinator = is_acting past t d.actor 1 is.newest.actor granted.0;
-      granted = all_granted setup (t ∷ past) v w servers d.given.grants there (grants_in setup start t past before d is) granted.1;
+      granted = all_granted setup past t (t ∷ past) v w servers d.given.grants d.granted there (grants_in setup start t past before d is) is.newest.granted granted.1;
     }
 
     no_ : IsWiredFlush setup past t (t ∷ past) v w → IsGrantedBy d servers
-    no_ flush = (acting_is past t d.actor 1 is.newest.actor flush.coordinator, one_granted setup (t ∷ past) v w servers d.given.grants there (grants_in setup start t past before d is) flush.granted)
+    no_ flush = (
+      acting_is past t d.actor 1 is.newest.actor flush.coordinator,
+      one_granted setup past t (t ∷ past) v w servers d.given.grants d.granted there (grants_in setup start t past before d is) is.newest.granted flush.granted,
+    )

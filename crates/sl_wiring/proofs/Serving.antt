@@ -1,6 +1,6 @@
 -- The packets that the proxy is given, and the bytes of a READ.
 use Rattle.std.proofs.Common.{◌≡◌, ℕ, Bool, true, false, List, Option, Some, None, refl, ap, sym, ◌∙◌}
-use Rattle.std.specs.Prelude.{◌==◌, ◌&&◌, if◌then◌else◌, option_and_then}
+use Rattle.std.specs.Prelude.{◌==◌, ◌&&◌, if◌then◌else◌, option_and_then, option_map}
 use Rattle.std.proofs.lemmas.Bool.{eq-eqb, eqb-true}
 use Rattle.sl_defs.specs.declared.setup.Setup.{Setup}
 use Rattle.sl_frames.specs.Actors.{is_proxy}
@@ -8,9 +8,10 @@ use Rattle.sl_frames.specs.declared.frame.Frame.{Frame}
 use Rattle.sl_frames.specs.declared.body.Body.{Body}
 use Rattle.sl_frames.specs.declared.body.Body.TheVariants as body
 use Rattle.sl_history.specs.Turns.{Turn, History}
-use Rattle.sl_history.specs.Licensed.{reaches}
+use Rattle.sl_history.specs.Licensed.{reaches, request}
 use Rattle.sl_history.specs.Placing.{byte_server}
-use Rattle.sl_history.specs.Wired.{IsRead, IsServedBy, given_event, read_bytes, results_of}
+use Rattle.sl_history.specs.Wired.{IsPacketFor, IsRead, IsServedBy, given_event, read_bytes, results_of}
+use Rattle.sl_wiring.specs.Dockets.{answered_by, arrival_of}
 use Rattle.sl_wiring.specs.Served.{packet_from, packet_in, served_by}
 
 pub some_is : {A : Type 0} → (x y : A) → Some x ≡ Some y → x ≡ y
@@ -64,17 +65,43 @@ was_served past t server packet is =
     ap (option_and_then (λ f. packet_from f server)) is.given ∙ ap (λ b. if b && is.answer.from == server then packet_in is.answer.body else None) is.receiver
     ∙ ap (λ b. if b then packet_in is.answer.body else None) (eq-eqb is.answer.from server is.sender) ∙ ap packet_in is.gives
 
+-- ---- the answer to a call's request
+
+answered_asking : (past : History) (f : Frame) (n : ℕ) (o : Option Frame) → request past f.fence f.tag ≡ o → option_map arrival_of o ≡ Some n → (asking : Frame) × ((request past f.fence f.tag ≡ Some asking) × (asking.arrival ≡ n))
+answered_asking past f n None is e = cc
+answered_asking past f n (Some asking) is e = (asking, (is, some_is asking.arrival n e))
+
+pub packet_for : (setup : Setup) (past : History) (t : Turn) (n f offset : ℕ) (packet : List ℕ) (answered : Option ℕ) → served_by past t (byte_server setup f offset) ≡ Some packet
+    → answered ≡ answered_by past (reaches past t) → answered ≡ Some n → IsPacketFor setup past t n f offset
+packet_for setup past t n f offset packet answered served is same =
+    let by = is_served past t (byte_server setup f offset) packet served in
+    let asking = answered_asking past by.answer n (request past by.answer.fence by.answer.tag) refl (sym (ap (answered_by past) by.given) ∙ sym is ∙ same) in
+    record { packet = packet; served = by; asking = asking.0; is = asking.1.0; arrival = asking.1.1 }
+
+pub served_for : (setup : Setup) (past : History) (t : Turn) (n f offset : ℕ) (is : IsPacketFor setup past t n f offset) → served_by past t (byte_server setup f offset) ≡ Some is.packet
+served_for setup past t n f offset is = was_served past t (byte_server setup f offset) is.packet is.served
+
+pub answered_for : (setup : Setup) (past : History) (t : Turn) (n f offset : ℕ) (answered : Option ℕ) → answered ≡ answered_by past (reaches past t) → IsPacketFor setup past t n f offset → answered ≡ Some n
+answered_for setup past t n f offset answered is for =
+    is ∙ ap (answered_by past) for.served.given ∙ ap (option_map arrival_of) for.is ∙ ap (λ (k : ℕ). Some k) for.arrival
+
 -- ---- the bytes of a READ
 
-pub is_read : (setup : Setup) (past : History) (t : Turn) (e file offset server : ℕ) (bytes packet : List ℕ) → server ≡ byte_server setup file offset → served_by past t server ≡ Some packet
-    → given_event past t.happening ≡ Some e → read_bytes (results_of 6 packet) ≡ Some bytes → IsRead setup past t e file offset bytes
-is_read setup past t e file offset server bytes packet at served sent same = record {
-  packet = packet;
-  served = is_served past t (byte_server setup file offset) packet (ap (served_by past t) (sym at) ∙ served);
+pub is_read : (setup : Setup) (past : History) (t : Turn) (n e file offset server : ℕ) (bytes packet : List ℕ) (answered : Option ℕ) → server ≡ byte_server setup file offset
+    → served_by past t server ≡ Some packet → answered ≡ answered_by past (reaches past t) → answered ≡ Some n → given_event past t.happening ≡ Some e → read_bytes (results_of 6 packet) ≡ Some bytes
+    → IsRead setup past t n e file offset bytes
+is_read setup past t n e file offset server bytes packet answered at served is this sent same = record {
+  answer = for;
   sent = sent;
-  same = same;
+  same = ap (λ p. read_bytes (results_of 6 p)) (some_is for.packet packet (sym (served_for setup past t n file offset for) ∙ here)) ∙ same;
 }
+  where
+    here : served_by past t (byte_server setup file offset) ≡ Some packet
+    here = ap (served_by past t) (sym at) ∙ served
 
-pub read_from : (setup : Setup) (past : History) (t : Turn) (e file offset server : ℕ) (bytes : List ℕ) → server ≡ byte_server setup file offset → (is : IsRead setup past t e file offset bytes)
-    → served_by past t server ≡ Some is.packet
-read_from setup past t e file offset server bytes at is = ap (served_by past t) at ∙ was_served past t (byte_server setup file offset) is.packet is.served
+    for : IsPacketFor setup past t n file offset
+    for = packet_for setup past t n file offset packet answered here is this
+
+pub read_from : (setup : Setup) (past : History) (t : Turn) (n e file offset server : ℕ) (bytes : List ℕ) → server ≡ byte_server setup file offset → (is : IsRead setup past t n e file offset bytes)
+    → served_by past t server ≡ Some is.answer.packet
+read_from setup past t n e file offset server bytes at is = ap (served_by past t) at ∙ served_for setup past t n file offset is.answer

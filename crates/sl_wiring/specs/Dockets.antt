@@ -6,7 +6,7 @@ use Rattle.sl_model.specs.Volume.{Volume}
 use Rattle.sl_history.specs.Turns.{Turn, History}
 use Rattle.sl_history.specs.Volumes.{volume_after}
 use Rattle.sl_history.specs.Licensed.{reaches, request}
-use Rattle.sl_history.specs.Wired.{acts}
+use Rattle.sl_history.specs.Wired.{acts, granted_by}
 use Rattle.sl_ledger.specs.Ledgers.{IsLedgerOf}
 use Rattle.sl_wiring.specs.Given.{AreGivenIn}
 use Rattle.sl_wiring.specs.declared.docket.Docket.{Docket}
@@ -31,6 +31,7 @@ answered_by past (Some f) = option_map arrival_of (request past f.fence f.tag)
 pub record IsNewest (past : History) (t : Turn) (d : Docket) : Type 0 where
   pub actor : IsActorOf past t d.actor
   pub answered : d.answered ≡ answered_by past (reaches past t)
+  pub granted : d.granted ≡ granted_by (reaches past t)
 
 abbrev pub IsNewestOf : History → Docket → Type 0
 IsNewestOf [] d = Unit {0}

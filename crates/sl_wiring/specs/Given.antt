@@ -58,7 +58,8 @@ abbrev pub HasMore : {A : Type 0} → List A → List A → Option A → Type 0
 HasMore old new None = new ≡ old
 HasMore old new (Some x) = HasOneMore old new x
 
--- each of these servers granted one and the same operation
-pub record GrantOne (grants : Grants) (servers : List ℕ) : Type 0 where
+-- each of these servers granted one and the same operation, which is the given one, if one is given
+pub record GrantOne (grants : Grants) (given : Option ℕ) (servers : List ℕ) : Type 0 where
   pub op : ℕ
+  pub now : (granted : ℕ) → given ≡ Some granted → op ≡ granted
   pub each : All (λ server. Contains grants.items.keys (record { op = op; server = server })) servers

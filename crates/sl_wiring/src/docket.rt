@@ -10,7 +10,7 @@ ghost use Rattle.sl_history.specs.Turns.{begun, noted};
 ghost use Rattle.sl_history.specs.Frames.{named_number};
 ghost use Rattle.sl_history.specs.Volumes.{after_note, volume_after};
 ghost use Rattle.sl_history.specs.Licensed.{reaches};
-ghost use Rattle.sl_history.specs.Wired.{IsFlying};
+ghost use Rattle.sl_history.specs.Wired.{IsFlying, granted_by};
 ghost use Rattle.sl_past.specs.Words.{happening_of, remark_of};
 ghost use Rattle.sl_ledger.specs.Ledgers.{IsLedgerOf};
 ghost use Rattle.sl_ledger.specs.Stops.{StopsAtNote};
@@ -19,7 +19,7 @@ ghost use Rattle.sl_wiring.specs.Dockets.{IsActorOf, IsDocketOf, answered_by, ar
 
 use crate::given::Given;
 use sl_defs::{Event, NoMemory, Setup};
-use sl_frames::Frame;
+use sl_frames::{Body, Frame};
 use sl_ledger::{AuditFault, Ledger, serve};
 use sl_past::{Happening, Remark};
 use sl_plain::Volume;
@@ -37,6 +37,8 @@ pub struct Docket {
     pub actor: Option<u8>,
     /// The event in which the call arrived whose request is answered by the frame that the newest turn gives.
     pub answered: Option<u64>,
+    /// The operation that the frame grants which the newest turn gives.
+    pub granted: Option<u64>,
 }
 
 /// Whose event the newest turn is.
@@ -73,6 +75,17 @@ fn answered_by(ledger: &Ledger) -> Option<u64>
 {
     let frame = ledger.reached()?;
     arrival_of(ledger.request(frame.fence, frame.tag))
+}
+
+/// The operation that the frame grants which the newest turn gives to an actor that was up.
+fn granted_by(ledger: &Ledger) -> Option<u64>
+    ensures { (t : turns.Turn) (past : turns.History) → IsLedgerOf (t ∷ past) ledger.now → result ≡ granted_by (reaches past t) }
+{
+    let frame = ledger.reached()?;
+    match &frame.body {
+        Body::Grant => Some(frame.op),
+        _ => None,
+    }
 }
 
 /// Takes the frame that the newest turn gives to an actor that was up.
@@ -116,6 +129,7 @@ impl Docket {
             given: Given::new(alloc),
             actor: None,
             answered: None,
+            granted: None,
         })
     }
 
@@ -138,6 +152,7 @@ impl Docket {
         self.ledger.begin(alloc, happening)?;
         self.actor = actor_of(&self.ledger, happening);
         self.answered = answered_by(&self.ledger);
+        self.granted = granted_by(&self.ledger);
         take_given(&self.ledger, &mut self.given)
     }
 

@@ -71,11 +71,12 @@ impl Docket {
         }
     }
 
-    /// Whether the newest turn is the coordinator's, and each of these servers granted one and the same operation.
+    /// Whether the newest turn is the coordinator's, and each of these servers granted one and the same operation: the one
+    /// whose Grant is given then, if one is.
     fn is_granted(&self, servers: &[u64]) -> bool
-        ensures { (result ≡ true) ↔ ((self.now.actor ≡ Some 1) × GrantOne self.now.given.grants servers.now) }
+        ensures { (result ≡ true) ↔ ((self.now.actor ≡ Some 1) × GrantOne self.now.given.grants self.now.granted servers.now) }
     {
-        self.is_coordinating() && self.given.grants().has_all(servers)
+        self.is_coordinating() && self.given.grants().has_all(self.granted, servers)
     }
 
     /// Whether what changes stands where it may: each part with a server that granted one operation, in the coordinator's

@@ -1,5 +1,5 @@
 //! Which servers granted which operations, as far as the coordinator was given that.
-ghost use Rattle.std.specs.Prelude.{◌≡◌, ◌↔◌, [], true, All, OnOk};
+ghost use Rattle.std.specs.Prelude.{◌≡◌, ◌↔◌, [], None, true, All, OnOk};
 ghost use Rattle.std.specs.List.{Contains};
 ghost use Rattle.sl_wiring.specs.Given.{GrantOne, HasMore, grant_by};
 
@@ -75,9 +75,9 @@ impl Grants {
         true
     }
 
-    /// Whether each of these servers granted one and the same operation.
-    pub fn has_all(&self, servers: &[u64]) -> bool
-        ensures { (result ≡ true) ↔ GrantOne self.now servers.now }
+    /// Whether each of these servers granted one and the same operation, whichever that is.
+    fn has_one(&self, servers: &[u64]) -> bool
+        ensures { (result ≡ true) ↔ GrantOne self.now None servers.now }
     {
         if servers.is_empty() {
             return true;
@@ -88,5 +88,15 @@ impl Grants {
             }
         }
         false
+    }
+
+    /// Whether each of these servers granted this operation, or, where none is given, one and the same.
+    pub fn has_all(&self, given: Option<u64>, servers: &[u64]) -> bool
+        ensures { (result ≡ true) ↔ GrantOne self.now given servers.now }
+    {
+        match given {
+            Some(op) => self.has_each(op, servers),
+            None => self.has_one(servers),
+        }
     }
 }

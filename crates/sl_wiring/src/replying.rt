@@ -63,19 +63,24 @@ impl Docket {
         packet_from(self.ledger.reached()?, server)
     }
 
-    /// Whether the bytes of a READ come from this server, in an answer that was sent in this event.
+    /// Whether the bytes of a READ come from this server, in the answer to the request of this arrival's call, and the answer
+    /// was sent in this event.
     fn is_read(
         &self,
         alloc: Global,
         server: u64,
+        arrival: u64,
         event: u64,
         bytes: &[u8],
     ) -> Result<bool, NoMemory>
-        ensures { (setup : Setup) (start : volumes.Volume) (t : turns.Turn) (past : turns.History) (before : List turns.Remark) (file offset : ℕ) → IsDocketOf setup start (so_far t before ∷ past) self.now → server ≡ byte_server setup file offset → Says result (IsRead setup past t event file offset bytes.now) }
+        ensures { (setup : Setup) (start : volumes.Volume) (t : turns.Turn) (past : turns.History) (before : List turns.Remark) (file offset : ℕ) → IsDocketOf setup start (so_far t before ∷ past) self.now → server ≡ byte_server setup file offset → Says result (IsRead setup past t arrival event file offset bytes.now) }
     {
         let Some(packet) = self.served(server) else {
             return Ok(false);
         };
+        if !is_this_event(self.answered, arrival) {
+            return Ok(false);
+        }
         if !is_this_event(self.ledger.sent_in(), event) {
             return Ok(false);
         }
@@ -83,15 +88,17 @@ impl Docket {
         Ok(are_these(&read, bytes))
     }
 
-    /// Whether the bytes of the reply to a READ come from where they lie, in an answer that was sent in this event.
+    /// Whether the bytes of the reply to a READ that arrived in an event come from where they lie, in its answer that was sent
+    /// in another.
     fn is_wired_read(
         &self,
         alloc: Global,
         asked: &Asked,
+        arrival: u64,
         event: u64,
         reply: &[u8],
     ) -> Result<bool, NoMemory>
-        ensures { (setup : Setup) (start : volumes.Volume) (t : turns.Turn) (past : turns.History) (before : List turns.Remark) → IsDocketOf setup start (so_far t before ∷ past) self.now → Says result (IsWiredReply setup past t event reply.now (Some (asked_of asked.now))) }
+        ensures { (setup : Setup) (start : volumes.Volume) (t : turns.Turn) (past : turns.History) (before : List turns.Remark) → IsDocketOf setup start (so_far t before ∷ past) self.now → Says result (IsWiredReply setup past t arrival event reply.now (Some (asked_of asked.now))) }
     {
         let Call::Read { file, offset, .. } = &asked.call else {
             return Ok(true);
@@ -99,7 +106,7 @@ impl Docket {
         match bytes_read(alloc, asked.procedure, reply)? {
             Some(bytes) => {
                 let server = byte_server(self.setup, fileid_of(file.as_slice()), *offset);
-                self.is_read(alloc, server, event, bytes.as_slice())
+                self.is_read(alloc, server, arrival, event, bytes.as_slice())
             }
             None => Ok(true),
         }
@@ -113,10 +120,10 @@ impl Docket {
         event: u64,
         reply: &[u8],
     ) -> Result<bool, NoMemory>
-        ensures { (setup : Setup) (start : volumes.Volume) (t : turns.Turn) (past : turns.History) (before : List turns.Remark) → IsDocketOf setup start (so_far t before ∷ past) self.now → Says result (IsWiredReply setup past t event reply.now (asked (so_far t before ∷ past) arrival)) }
+        ensures { (setup : Setup) (start : volumes.Volume) (t : turns.Turn) (past : turns.History) (before : List turns.Remark) → IsDocketOf setup start (so_far t before ∷ past) self.now → Says result (IsWiredReply setup past t arrival event reply.now (asked (so_far t before ∷ past) arrival)) }
     {
         match self.ledger.asked(arrival) {
-            Some(asked) => self.is_wired_read(alloc, asked, event, reply),
+            Some(asked) => self.is_wired_read(alloc, asked, arrival, event, reply),
             None => Ok(true),
         }
     }

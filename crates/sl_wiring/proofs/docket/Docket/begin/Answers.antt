@@ -21,6 +21,7 @@ returns c =
       given = c.take_given.new.given;
       actor = c.actor_of-self.result;
       answered = c.answered_by-self.result;
+      granted = c.granted_by-self.result;
     } in
     on_ok_then c.take_given.result ((t : Turn) (past : History) → IsLedgerOf (t ∷ past) c.begin.new.self → AreGivenIn past c.args.self.now.given → AreGivenIn (t ∷ past) c.take_given.new.given)
     ((setup : Setup) (start : Volume) (past : History) (moment : Time) → IsDocketOf setup start past c.args.self.now → IsDocketOf setup start (begun past (happening_of c.args.happening.now) moment) new)
@@ -34,5 +35,5 @@ returns c =
       ledger = ledger;
       volume = is.volume ∙ sym (volume_begun start past x moment);
       given = given t past ledger is.given;
-      newest = record { actor = c.actor_of-self.ensures t past refl ledger; answered = c.answered_by-self.ensures past x moment ledger };
+      newest = record { actor = c.actor_of-self.ensures t past refl ledger; answered = c.answered_by-self.ensures past x moment ledger; granted = c.granted_by-self.ensures t past ledger };
     })

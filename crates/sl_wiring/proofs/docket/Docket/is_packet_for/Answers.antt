@@ -4,7 +4,7 @@ use Rattle.std.specs.Option.{option_copied}
 use Rattle.sl_defs.specs.declared.setup.Setup.{Setup}
 use Rattle.sl_history.specs.Placing.{byte_server}
 use Rattle.sl_wiring.specs.Served.{served_by}
-use Rattle.sl_wiring.proofs.EffectLaws.{answered_for, packet_for, served_for}
+use Rattle.sl_wiring.proofs.Serving.{answered_for, packet_for, served_for}
 use Rattle.sl_wiring.proofs.docket.Docket.is_packet_for.Goals as goal
 
 none_some : (o : Option (List ℕ)) (x : List ℕ) → o ≡ None → o ≡ Some x → ⊥

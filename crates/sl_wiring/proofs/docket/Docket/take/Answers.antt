@@ -15,11 +15,12 @@ returns-in-Ok-clause-taken c = λ setup start t past is.
       given = c.args.self.now.given;
       actor = c.args.self.now.actor;
       answered = c.args.self.now.answered;
+      granted = c.args.self.now.granted;
     } in
     record {
       setup_is = is.setup_is;
       ledger = c.in-Ok.ensures t past is.ledger;
       volume = c.in_ok-follow.ensures.follows start t past is.ledger is.volume;
       given = given_over t past rs c.args.self.now.given is.given;
-      newest = newest_over past t rs c.args.self.now new refl refl is.newest;
+      newest = newest_over past t rs c.args.self.now new refl refl refl is.newest;
     }

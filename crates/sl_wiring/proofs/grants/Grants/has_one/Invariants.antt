@@ -1,6 +1,6 @@
 use Rattle.std.specs.List.{All, Contains}
 use Rattle.sl_wiring.specs.declared.grants.Grant.{Grant}
-use Rattle.sl_wiring.proofs.grants.Grants.has_all.Given as goal
+use Rattle.sl_wiring.proofs.grants.Grants.has_one.Given as goal
 
 -- a grant of what all servers granted is still to come
 abbrev pub invariant-loop-grant : goal.invariant-loop-grant
