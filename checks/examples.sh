@@ -1,5 +1,6 @@
 #!/usr/bin/env bash
-# Each schedule of examples/ gives the transcript that lies beside it, and a transcript, read as a schedule, gives itself.
+# Each schedule of examples/ gives the transcript that lies beside it, and a transcript, read as a schedule, gives itself. Every
+# claim holds of each transcript there, and of those of the ensemble's operations.
 set -u
 cd "$(dirname "$0")/.." || exit 1
 failed=0
@@ -11,5 +12,11 @@ for schedule in examples/*.schedule; do
             failed=1
         fi
     done
+done
+for transcript in examples/*.transcript examples/ensemble/*.transcript; do
+    if ! bin/referee <"$transcript" | cmp - <(printf '%s yes\n' legal licensed wired fenced remembering completed); then
+        echo "$transcript: not every claim holds"
+        failed=1
+    fi
 done
 exit $failed

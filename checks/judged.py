@@ -139,7 +139,7 @@ def main():
     subprocess.run(["bin/slice", "replay"], input=b"", capture_output=True)
     with ThreadPoolExecutor(2) as pool:
         found = list(pool.map(lambda seed: judged(judge, seed), range(count)))
-    found += [missed(judge, path, path) for path in sorted(glob.glob("examples/*.transcript"))]
+    found += [missed(judge, path, path) for path in sorted(glob.glob("examples/**/*.transcript", recursive=True))]
     wrong = [w for w in found if w]
     print("\n".join(wrong[:5]))
     print(f"{len(found) - len(wrong)} passed, {len(wrong)} failed")
