@@ -114,8 +114,8 @@ fn file(alloc: Global) -> Result<Fh, NoMemory> {
     Ok(Fh::new(bytes(alloc, &handle.bytes())?))
 }
 
-// A volume with a file, and an unstable write of two bytes at offset 3.
-pub fn written(alloc: Global) -> Result<Volume, Fail> {
+/// A volume with a file, and an unstable write of two bytes at offset 3.
+pub(crate) fn written(alloc: Global) -> Result<Volume, Fail> {
     let mut volume = Volume::new(alloc, 7)?;
     let create = Call::Create {
         dir: Fh::new(bytes(alloc, &ROOT.bytes())?),
