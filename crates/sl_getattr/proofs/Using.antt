@@ -11,6 +11,7 @@ use Rattle.sl_model.specs.Perform.{new_root}
 use Rattle.sl_frames.specs.Actors.{is_data}
 use Rattle.sl_frames.specs.declared.frame.Frame.{Frame}
 use Rattle.sl_frames.specs.declared.body.Body.TheVariants as body
+use Rattle.sl_history.specs.Bodies.{is_welcome}
 use Rattle.sl_history.specs.Turns.{Remark, History}
 use Rattle.sl_history.specs.Turns as note
 use Rattle.sl_history.specs.Arrivals.{answer_to, is_changing}
@@ -18,7 +19,7 @@ use Rattle.sl_machine.specs.Records.{Record}
 use Rattle.sl_machine.specs.Memory.{Waiting, Request, Proxy, Actor, OfProxy}
 use Rattle.sl_machine.specs.Packets.{reply_in}
 use Rattle.sl_machine.specs.World.{World, Scene, Given, Wakes, Segment, Told, nothing, scene, played, told, after_segment}
-use Rattle.sl_machine.specs.Proxies.{still, notes, ends, has_answer, breaks, refuses, other_boot, is_welcome, ends_look, by_packet, by_packet_if, by_answer}
+use Rattle.sl_machine.specs.Proxies.{still, notes, ends, has_answer, breaks, refuses, other_boot, ends_look, by_packet, by_packet_if, by_answer}
 use Rattle.sl_machine.specs.Proxies as proxies
 use Rattle.sl_machine.specs.Runs.{May, Steps}
 use Rattle.sl_getattr.proofs.Stepping.{Begun, Does, Falls, Spends, begun, same_some, same_proxy, not_none, proxy_row}

@@ -1,4 +1,5 @@
 pub mod Turns
+pub mod Bodies
 pub mod Frames
 pub mod Arrivals
 pub mod Volumes

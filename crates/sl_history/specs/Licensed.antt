@@ -24,6 +24,7 @@ use Rattle.sl_frames.specs.declared.body.Body.{Body}
 use Rattle.sl_frames.specs.declared.body.Body.TheVariants as body
 use Rattle.sl_frames.specs.declared.intent.What.{What}
 use Rattle.sl_frames.specs.declared.intent.What.TheVariants as what
+use Rattle.sl_history.specs.Bodies.{is_decided}
 use Rattle.sl_history.specs.Turns.{Remark, Sent, Did, Flush, Verf, Junk, Early, Full, Lost, Down, Turn, History, events, so_far, datagram_of}
 use Rattle.sl_history.specs.Frames.{or_else, is_up, given_by, WasGiven, WasSent}
 use Rattle.sl_history.specs.Arrivals.{Asked, asked, dropped_by, is_commit, is_changing, fileid_of}
@@ -219,10 +220,6 @@ request_among (r ∷ rs) fence tag = request_among rs fence tag
 unfoldable pub request : History → ℕ → ℕ → Option Frame
 request [] fence tag = None
 request (t ∷ past) fence tag = or_else (request past fence tag) (request_among t.remarks fence tag)
-
-abbrev pub is_decided : Body → Bool
-is_decided (body.Decided done) = true
-is_decided other = false
 
 -- the file whose flush this answer ends
 abbrev pub flush_of_request : Option Frame → Option ℕ

@@ -16,6 +16,7 @@ use Rattle.sl_cells.specs.declared.keys.CellKey.{CellKey}
 use Rattle.sl_cells.specs.declared.keys.CellKey.TheVariants as key
 use Rattle.sl_frames.specs.declared.body.Body.{Body}
 use Rattle.sl_frames.specs.declared.body.Body.TheVariants as body
+use Rattle.sl_history.specs.Bodies.{is_forward}
 use Rattle.sl_history.specs.Turns.{Remark, Sent, Flush, Verf, Replied, Turn, History, events, so_far}
 use Rattle.sl_history.specs.Arrivals.{Asked, asked, asked_by, is_changing, is_commit, arrives, waiting}
 use Rattle.sl_history.specs.Wired.{results_of}
@@ -101,10 +102,6 @@ is_key_of f (key.Name d name) = false
 abbrev pub asks_for : ℕ → Body → Bool
 asks_for f (body.Ask keys) = list_any (is_key_of f) keys
 asks_for f other = false
-
-abbrev pub is_forward : Body → Bool
-is_forward (body.Forward chosen packet) = true
-is_forward other = false
 
 abbrev pub names_file : ℕ → Option Handle → Bool
 names_file f None = false

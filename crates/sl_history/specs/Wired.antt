@@ -33,6 +33,7 @@ use Rattle.sl_frames.specs.declared.found.FoundCell.TheVariants as found
 use Rattle.sl_frames.specs.declared.frame.Frame.{Frame}
 use Rattle.sl_frames.specs.declared.body.Body.{Body}
 use Rattle.sl_frames.specs.declared.body.Body.TheVariants as body
+use Rattle.sl_history.specs.Bodies.{is_hello, is_welcome, is_packet, is_found, is_listed, is_minted, is_decided, is_grant, is_refuse, is_ack}
 use Rattle.sl_history.specs.Turns.{Remark, Sent, Did, Flush, Replied, Turn, History, so_far}
 use Rattle.sl_history.specs.Frames.{is_up, frame, event_of_sending, named_number, given_number, in_flight, WasGiven}
 use Rattle.sl_history.specs.Arrivals.{Asked, asked, datagram, asked_in, fileid_of}
@@ -41,10 +42,6 @@ use Rattle.sl_history.specs.Licensed.{request, reaches}
 use Rattle.sl_history.specs.Placing.{object_server, name_server, byte_server, key_server}
 
 -- ---- who sends
-
-abbrev pub is_hello : Body → Bool
-is_hello body.Hello = true
-is_hello other = false
 
 abbrev pub is_receiver : ℕ → Option Frame → Bool
 is_receiver a None = false
@@ -69,17 +66,15 @@ may_send past other f = acts past other f.from
 
 -- the second is a kind of answer to the first
 abbrev pub fits : Body → Body → Bool
-fits body.Hello body.Welcome = true
-fits (body.Forward chosen packet) (body.Packet reply) = true
-fits (body.Forward chosen packet) body.Refuse = true
-fits (body.Ask keys) (body.Found cells) = true
-fits (body.List dir cookie limit) (body.Listed cells more) = true
-fits (body.Mint site) (body.Minted fileid) = true
-fits (body.Intent i) (body.Decided done) = true
-fits (body.Lock work) body.Grant = true
-fits (body.Lock work) body.Refuse = true
-fits body.Apply body.Ack = true
-fits body.Release body.Ack = true
+fits body.Hello answer = is_welcome answer
+fits (body.Forward chosen packet) answer = is_packet answer || is_refuse answer
+fits (body.Ask keys) answer = is_found answer
+fits (body.List dir cookie limit) answer = is_listed answer
+fits (body.Mint site) answer = is_minted answer
+fits (body.Intent i) answer = is_decided answer
+fits (body.Lock work) answer = is_grant answer || is_refuse answer
+fits body.Apply answer = is_ack answer
+fits body.Release answer = is_ack answer
 fits other answer = false
 
 -- an answer, of whatever kind
@@ -342,10 +337,19 @@ pub record AreNames (setup : Setup) (v : Volume) (server d cookie limit : ℕ) (
   pub front : cells ≡ map (line_cell d) (up_to limit 0 (names_with setup v server d cookie))
   pub rest : more ≡ nat_lt (length cells) (length (names_with setup v server d cookie))
 
+abbrev pub AreCellsIf : Setup → Volume → ℕ → List CellKey → Body → Type 0
+AreCellsIf setup v server keys (body.Found cells) = AreCells setup v server keys cells
+AreCellsIf setup v server keys other = Unit {0}
+
+abbrev pub AreNamesIf : Setup → Volume → ℕ → ℕ → ℕ → ℕ → Body → Type 0
+AreNamesIf setup v server d cookie limit (body.Listed cells more) = AreNames setup v server d cookie limit cells more
+AreNamesIf setup v server d cookie limit other = Unit {0}
+
+-- what a server tells of its cells and names is so
 abbrev pub IsTrueAnswer : Setup → Volume → ℕ → Body → Body → Type 0
-IsTrueAnswer setup v server (body.Ask keys) (body.Found cells) = AreCells setup v server keys cells
-IsTrueAnswer setup v server (body.List d cookie limit) (body.Listed cells more) = AreNames setup v server d cookie limit cells more
-IsTrueAnswer setup v server asking answer = Unit {0}
+IsTrueAnswer setup v server (body.Ask keys) answer = AreCellsIf setup v server keys answer
+IsTrueAnswer setup v server (body.List d cookie limit) answer = AreNamesIf setup v server d cookie limit answer
+IsTrueAnswer setup v server other answer = Unit {0}
 
 abbrev pub IsTrueIf : Setup → Volume → Frame → Option Frame → Type 0
 IsTrueIf setup v f None = Unit {0}

@@ -6,7 +6,8 @@ use Rattle.sl_defs.specs.declared.setup.Time.{Time}
 use Rattle.sl_frames.specs.Actors.{is_proxy}
 use Rattle.sl_frames.specs.declared.frame.Frame.{Frame}
 use Rattle.sl_history.specs.Turns.{History, begun}
-use Rattle.sl_history.specs.Licensed.{ended_by, flush_of_request, flushing, flushing_on, is_decided, reaches, request}
+use Rattle.sl_history.specs.Bodies.{is_decided}
+use Rattle.sl_history.specs.Licensed.{ended_by, flush_of_request, flushing, flushing_on, reaches, request}
 use Rattle.sl_past.specs.Words.{remark_of}
 use Rattle.sl_past.specs.declared.remark.Remark as past
 use Rattle.sl_past.specs.declared.remark.Remark.TheVariants as remark

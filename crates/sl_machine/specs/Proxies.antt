@@ -21,12 +21,14 @@ use Rattle.sl_records.specs.declared.proxy.ProxyRecord.TheVariants as start
 use Rattle.sl_frames.specs.Actors.{is_data}
 use Rattle.sl_frames.specs.declared.found.FoundCell.{FoundCell}
 use Rattle.sl_frames.specs.declared.found.FoundCell.TheVariants as found
+use Rattle.sl_frames.specs.declared.intent.Intent.{Intent}
 use Rattle.sl_frames.specs.declared.intent.What.{What}
 use Rattle.sl_frames.specs.declared.intent.What.TheVariants as what
 use Rattle.sl_frames.specs.declared.intent.Part.{Part}
 use Rattle.sl_frames.specs.declared.frame.Frame.{Frame}
 use Rattle.sl_frames.specs.declared.body.Body.{Body}
 use Rattle.sl_frames.specs.declared.body.Body.TheVariants as body
+use Rattle.sl_history.specs.Bodies.{is_welcome, is_refuse}
 use Rattle.sl_history.specs.Turns.{Remark}
 use Rattle.sl_history.specs.Turns as note
 use Rattle.sl_history.specs.Arrivals.{Asked, Datagram, IsJunk, IsAnswered, IsAsked, datagram, answer_to, is_changing, most_waiting}
@@ -247,11 +249,20 @@ fit_keys [] [] = true
 fit_keys (k ∷ ks) (c ∷ cs) = fits_key k c && fit_keys ks cs
 fit_keys ks cs = false
 
--- a Packet has a reply to the call's procedure
+abbrev pub has_cells : List CellKey → Body → Bool
+has_cells keys (body.Found cells) = fit_keys keys cells
+has_cells keys other = false
+
+-- a reply to the call's procedure, or a refusal
+abbrev pub has_reply : Waiting → Body → Bool
+has_reply w (body.Packet answer) = is_some (reply_in w.asked.procedure answer)
+has_reply w other = is_refuse other
+
+-- a kind of answer to the request, whose cells are of the kinds of its keys, and whose packet is a reply to the call
 abbrev pub has_answer : Waiting → Body → Body → Bool
-has_answer w (body.Ask keys) (body.Found cells) = fit_keys keys cells
-has_answer w (body.Forward chosen packet) (body.Packet answer) = is_some (reply_in w.asked.procedure answer)
-has_answer w asked answer = fits asked answer
+has_answer w (body.Ask keys) answer = has_cells keys answer
+has_answer w (body.Forward chosen packet) answer = has_reply w answer
+has_answer w other answer = fits other answer
 
 -- The frame answers the request that is out.
 pub record Uses (p : Proxy) (f : Frame) : Type 0 where
@@ -389,14 +400,34 @@ abbrev pub by_packet_if : Scene → Proxy → ℕ → Waiting → ℕ → ℕ �
 by_packet_if x p n w e server None = still p []
 by_packet_if x p n w e server (Some r) = by_packet x p n w e server r
 
--- what an answer leads to
+abbrev pub by_found : Proxy → ℕ → Waiting → ℕ → List CellKey → Body → Segment
+by_found p n w e keys (body.Found cells) = goes_on p n (answered w e (with_cells (pairs keys cells) w.told))
+by_found p n w e keys other = still p []
+
+abbrev pub by_listed : Proxy → ℕ → Waiting → ℕ → Body → Segment
+by_listed p n w e (body.Listed cells more) = goes_on p n (answered w e (with_names (record { cells = cells; more = more }) w.told))
+by_listed p n w e other = still p []
+
+abbrev pub by_minted : Proxy → ℕ → Waiting → ℕ → Body → Segment
+by_minted p n w e (body.Minted f) = goes_on p n (answered w e (with_id f w.told))
+by_minted p n w e other = still p []
+
+abbrev pub by_decided : Scene → Proxy → ℕ → Waiting → ℕ → Intent → Body → Segment
+by_decided x p n w e i (body.Decided agreed) = ends_operation x p n w i.moment i.what e
+by_decided x p n w e i other = still p []
+
+abbrev pub by_reply : Scene → Proxy → ℕ → Waiting → ℕ → ℕ → Body → Segment
+by_reply x p n w e server (body.Packet answer) = by_packet_if x p n w e server (reply_in w.asked.procedure answer)
+by_reply x p n w e server other = still p []
+
+-- what an answer leads to, by the request that it answers
 abbrev pub by_answer : Scene → Proxy → ℕ → Waiting → ℕ → ℕ → Body → Body → Segment
-by_answer x p n w e server (body.Ask keys) (body.Found cells) = goes_on p n (answered w e (with_cells (pairs keys cells) w.told))
-by_answer x p n w e server (body.List d cookie limit) (body.Listed cells more) = goes_on p n (answered w e (with_names (record { cells = cells; more = more }) w.told))
-by_answer x p n w e server (body.Mint site) (body.Minted f) = goes_on p n (answered w e (with_id f w.told))
-by_answer x p n w e server (body.Intent i) (body.Decided agreed) = ends_operation x p n w i.moment i.what e
-by_answer x p n w e server (body.Forward chosen packet) (body.Packet answer) = by_packet_if x p n w e server (reply_in w.asked.procedure answer)
-by_answer x p n w e server asked answer = still p []
+by_answer x p n w e server (body.Ask keys) answer = by_found p n w e keys answer
+by_answer x p n w e server (body.List d cookie limit) answer = by_listed p n w e answer
+by_answer x p n w e server (body.Mint site) answer = by_minted p n w e answer
+by_answer x p n w e server (body.Intent i) answer = by_decided x p n w e i answer
+by_answer x p n w e server (body.Forward chosen packet) answer = by_reply x p n w e server answer
+by_answer x p n w e server other answer = still p []
 
 pub record UsesAnswer (x : Scene) (p : Proxy) (f : Frame) (e : ℕ) (seg : Segment) : Type 0 where
   pub uses : Uses p f
@@ -410,10 +441,6 @@ pub record IsWelcomed (p : Proxy) (f : Frame) (seg : Segment) : Type 0 where
   pub sender : f.from ≡ 1
   pub first : p.welcomed ≡ false
   pub does : seg ≡ notes (record p { welcomed = true }) (note.Verf p.fence ∷ []) []
-
-abbrev pub is_welcome : Body → Bool
-is_welcome body.Welcome = true
-is_welcome other = false
 
 -- Any other frame is passed over.
 pub record Ignores (p : Proxy) (f : Frame) (seg : Segment) : Type 0 where

@@ -2,6 +2,7 @@
 ghost use Rattle.std.specs.Prelude.{◌≡◌, ◌↔◌, ◌==◌, ◌≤◌, ◌&&◌, ℕ, not, true};
 ghost use Rattle.std.specs.List.{list_any};
 ghost use Rattle.sl_types.specs.Handles.{handle_of};
+ghost use Rattle.sl_history.specs.Bodies.{is_forward};
 ghost use Rattle.sl_history.specs.Turns.{History, events};
 ghost use Rattle.sl_history.specs.Remembering as remembering;
 ghost use Rattle.sl_recall.specs.Memories.{AsksAgain, IsMemoryOf, Knows};
@@ -41,7 +42,7 @@ fn asks_for(body: &Body, file: u64) -> bool
 
 /// Whether a call is handed on to a server.
 fn is_forward(body: &Body) -> bool
-    ensures { result ≡ remembering.is_forward body.now }
+    ensures { result ≡ is_forward body.now }
 {
     matches!(body, Body::Forward { .. })
 }
@@ -49,7 +50,7 @@ fn is_forward(body: &Body) -> bool
 impl Memory {
     /// Whether a GETATTR is handed on for a file that the proxy has the attributes of.
     fn is_handed_on(&self, call: u64, object: &Fh, body: &Body) -> bool
-        ensures { (h : History) → IsMemoryOf h self.now → call ≤ events h → (result ≡ true) ↔ ((f : ℕ) × Knows h call f × ((remembering.names_file f (handle_of object.now) && remembering.is_forward body.now) ≡ true)) }
+        ensures { (h : History) → IsMemoryOf h self.now → call ≤ events h → (result ≡ true) ↔ ((f : ℕ) × Knows h call f × ((remembering.names_file f (handle_of object.now) && is_forward body.now) ≡ true)) }
     {
         match file_named(object) {
             Some(file) => is_forward(body) && self.knows(call, file),

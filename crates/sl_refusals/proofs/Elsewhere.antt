@@ -11,11 +11,10 @@ use Rattle.sl_items.specs.Spelling.{sattr_text, set_time_text}
 use Rattle.sl_calls.specs.Reading.{args_at, setattr_at}
 use Rattle.sl_calls.specs.Args.{args_text}
 use Rattle.sl_frames.specs.declared.frame.Frame.{Frame}
-use Rattle.sl_frames.specs.declared.body.Body.{Body}
-use Rattle.sl_frames.specs.declared.body.Body.TheVariants as body
 use Rattle.sl_model.specs.declared.node.Node.{Node}
 use Rattle.sl_model.specs.Plan.{NodeKey}
 use Rattle.sl_frames.specs.Actors.{is_directory}
+use Rattle.sl_history.specs.Bodies.{is_grant}
 use Rattle.sl_history.specs.Turns.{Turn, History, turn_of}
 use Rattle.sl_history.specs.Frames.{is_up, frame}
 use Rattle.sl_history.specs.Arrivals.{datagram, asked}
@@ -75,10 +74,6 @@ unfolding frame volume_after asked turn_of datagram call_header_at u32_text u32_
 by_data_server wired = not_here (asked_of 32 forwarded) noted _ 32 (λ b. refl) refl refl (wired.1.may.0.stands it_differs)
 
 -- ---- by the coordinator
-
-abbrev pub is_grant : Body → Bool
-is_grant body.Grant = true
-is_grant other = false
 
 abbrev pub grants : Frame → Bool
 grants f = is_grant f.body

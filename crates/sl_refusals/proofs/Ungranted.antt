@@ -7,6 +7,7 @@ use Rattle.sl_items.specs.Reading.{fh_at, bytes_at, stable_at}
 use Rattle.sl_calls.specs.Reading.{args_at, write_at}
 use Rattle.sl_calls.specs.Args.{args_text}
 use Rattle.sl_frames.specs.declared.frame.Frame.{Frame}
+use Rattle.sl_history.specs.Bodies.{is_grant}
 use Rattle.sl_history.specs.Turns.{Flush, History, turn_of}
 use Rattle.sl_history.specs.Frames.{is_up, frame}
 use Rattle.sl_history.specs.Arrivals.{datagram, asked}
@@ -17,7 +18,6 @@ use Rattle.sl_examples.specs.Histories.{setup}
 use Rattle.sl_refusals.specs.Volumes.{filed}
 use Rattle.sl_refusals.specs.Grants.{locking, granted_by_first, granted_again, noted_by_server, GrantsAreToldApart}
 use Rattle.sl_refusals.proofs.Given.{some_given, not_given, same_numbers, both_true}
-use Rattle.sl_refusals.proofs.Elsewhere.{is_grant}
 use Rattle.sl_refusals.proofs.Grants.{byte_differs, by_both}
 
 -- ---- the second hasn't

@@ -6,7 +6,8 @@ ghost use Rattle.sl_model.specs.Volume as volumes;
 ghost use Rattle.sl_history.specs.Turns as turns;
 ghost use Rattle.sl_history.specs.Turns.{so_far};
 ghost use Rattle.sl_history.specs.Deciding.{Says};
-ghost use Rattle.sl_history.specs.Wired.{IsSent, acts, is_hello, is_quiet, looked_at, may_send};
+ghost use Rattle.sl_history.specs.Bodies.{is_hello};
+ghost use Rattle.sl_history.specs.Wired.{IsSent, acts, is_quiet, looked_at, may_send};
 ghost use Rattle.sl_past.specs.Words.{happening_of};
 ghost use Rattle.sl_wiring.specs.Dockets.{IsDocketOf};
 

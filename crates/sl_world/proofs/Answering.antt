@@ -15,6 +15,7 @@ use Rattle.sl_model.specs.Volume.{is_reg}
 use Rattle.sl_frames.specs.Actors.{is_data}
 use Rattle.sl_frames.specs.declared.frame.Frame.{Frame}
 use Rattle.sl_frames.specs.declared.body.Body.TheVariants as body
+use Rattle.sl_history.specs.Bodies.{is_welcome}
 use Rattle.sl_history.specs.Turns.{Remark}
 use Rattle.sl_history.specs.Turns as note
 use Rattle.sl_history.specs.Arrivals.{Asked, IsJunk, IsAnswered, IsAsked, datagram, answer_to, is_changing, most_waiting}
@@ -22,7 +23,7 @@ use Rattle.sl_machine.specs.Memory.{Waiting, Request, Proxy, Soft, Actor, OfProx
 use Rattle.sl_machine.specs.Calls.{refused}
 use Rattle.sl_machine.specs.World.{Scene, Task, Given, Arrives, Goes, Wakes}
 use Rattle.sl_machine.specs.Packets.{reply_in}
-use Rattle.sl_machine.specs.Proxies.{still, notes, with_call, waiting_for, takes, arrives, does_want, ends, ready_among, first_ready, wakes, is_welcome, by_answer, by_packet, by_packet_if, boots_by, breaks, other_boot, has_answer, Uses, ends_look, with_attributes, learns}
+use Rattle.sl_machine.specs.Proxies.{still, notes, with_call, waiting_for, takes, arrives, does_want, ends, ready_among, first_ready, wakes, by_answer, by_packet, by_packet_if, boots_by, breaks, other_boot, has_answer, Uses, ends_look, with_attributes, learns}
 use Rattle.sl_machine.specs.Proxies as proxies
 use Rattle.sl_machine.specs.Runs.{ByProxy}
 use Rattle.sl_world.specs.declared.look.Look.{Look}

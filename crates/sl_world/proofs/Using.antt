@@ -6,11 +6,12 @@ use Rattle.sl_types.specs.declared.reply.Reply.TheVariants as reply
 use Rattle.sl_frames.specs.Actors.{is_data}
 use Rattle.sl_frames.specs.declared.frame.Frame.{Frame}
 use Rattle.sl_frames.specs.declared.body.Body.TheVariants as body
+use Rattle.sl_history.specs.Bodies.{is_welcome}
 use Rattle.sl_history.specs.Turns.{Remark}
 use Rattle.sl_history.specs.Turns as note
 use Rattle.sl_machine.specs.World.{Given}
 use Rattle.sl_machine.specs.Packets.{reply_in}
-use Rattle.sl_machine.specs.Proxies.{is_welcome, has_answer}
+use Rattle.sl_machine.specs.Proxies.{has_answer}
 use Rattle.sl_world.specs.declared.look.Look.{Look}
 use Rattle.sl_world.specs.declared.proxy.Proxy.{Proxy}
 use Rattle.sl_world.specs.declared.step.Step.{Step}

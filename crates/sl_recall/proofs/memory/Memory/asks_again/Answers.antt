@@ -2,7 +2,8 @@ use Rattle.std.proofs.Common.{◌&&◌, sym, subst, refl}
 use Rattle.sl_types.specs.declared.call.Call.TheVariants as call
 use Rattle.sl_types.specs.Handles.{handle_of}
 use Rattle.sl_datagram.specs.Datagrams.{asked_of}
-use Rattle.sl_history.specs.Remembering.{asks_for, is_forward, is_other_directory, names_file}
+use Rattle.sl_history.specs.Bodies.{is_forward}
+use Rattle.sl_history.specs.Remembering.{asks_for, is_other_directory, names_file}
 use Rattle.sl_ledger.specs.Ledgers.{IsLedgerOf}
 use Rattle.sl_recall.proofs.AskingLaws.{asked_within, asks_so}
 use Rattle.sl_recall.proofs.memory.Memory.asks_again.Goals as goal
