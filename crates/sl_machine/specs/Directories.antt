@@ -99,10 +99,6 @@ pub record Renews (s : Site) (f : Frame) (e : ℕ) (seg : Segment) : Type 0 wher
   pub greater : s.fence < f.fence
   pub does : seg ≡ record { append = Some (OfDir (dir.Fence f.fence)); memory = OfSite (renewed f s); frames = []; notes = []; todo = Given f e ∷ [] }
 
--- nothing is done for it
-pub record Ignores (s : Site) (seg : Segment) : Type 0 where
-  pub does : seg ≡ quiet (OfSite s) []
-
 -- a finished operation is acknowledged again, but not its Lock
 abbrev pub again_acknowledged : ℕ → Site → Frame → Body → Segment
 again_acknowledged i s f (body.Lock work) = quiet (OfSite s) []

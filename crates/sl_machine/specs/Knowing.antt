@@ -1,6 +1,5 @@
 -- What a call knows by what it was told, what it still needs, and its effect.
 use Rattle.std.specs.Prelude.{ℕ, ◌==◌, List, [], ◌∷◌, ◌++◌, Option, Some, None, Bool, true, false, not, ◌&&◌, ◌||◌, nat_le, nat_lt, nat_eq, replicate, filter, map, if◌then◌else◌, option_to_list}
-use Rattle.std.specs.List.{list_any}
 use Rattle.std.specs.Cmp.Lexicographic.{pointwise}
 use Rattle.std.specs.Option.{unwrap_or}
 use Rattle.sl_defs.specs.declared.setup.Time.{Time}
@@ -155,9 +154,6 @@ abbrev pub same_key : Key → Key → Bool
 same_key (NodeKey f) (NodeKey g) = f == g
 same_key (NameKey d name) (NameKey e other) = d == e && pointwise nat_eq name other
 same_key a b = false
-
-abbrev pub has_key : List Key → Key → Bool
-has_key ks k = list_any (same_key k) ks
 
 abbrev pub each_once : List Key → List Key
 each_once [] = []

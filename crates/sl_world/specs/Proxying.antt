@@ -1,5 +1,5 @@
 -- What a proxy of GETATTR calls holds as the machine sees it, and what is claimed of its steps.
-use Rattle.std.specs.Prelude.{◌≡◌, ℕ, ◌+◌, ◌-◌, ◌^◌, ◌<◌, ◌≤◌, ◌++◌, List, [], ◌∷◌, Option, Some, None, Result, Ok, Err, Bool, true, false, not, map as each, min, nat_le, if◌then◌else◌}
+use Rattle.std.specs.Prelude.{◌≡◌, ℕ, ◌+◌, ◌-◌, ◌^◌, ◌≤◌, ◌++◌, List, [], ◌∷◌, Option, Some, None, Result, Ok, Err, Bool, true, false, not, map as each, min, nat_le, if◌then◌else◌}
 use Rattle.std.specs.Ordering.{nat_cmp}
 use Rattle.std.specs.FinMap.{FinMap}
 use Rattle.std.specs.FinMap as map
@@ -28,8 +28,7 @@ use Rattle.sl_machine.specs.Records.{Record}
 use Rattle.sl_machine.specs.Memory.{Hold, Waiting, Request, Actor, OfProxy, nothing_told, no_soft}
 use Rattle.sl_machine.specs.Memory as memory
 use Rattle.sl_machine.specs.Calls.{is_foreign}
-use Rattle.sl_machine.specs.Packets.{forwarded, handle_in, reply_in}
-use Rattle.sl_edit.specs.Spans.{handle_span}
+use Rattle.sl_machine.specs.Packets.{forwarded, reply_in}
 use Rattle.sl_machine.specs.World.{Scene, Task, Arrives, Given}
 use Rattle.sl_world.specs.declared.look.Look.{Look}
 use Rattle.sl_world.specs.declared.proxy.Proxy.{Proxy}
@@ -142,14 +141,6 @@ pub record IsOutFor (m : FinMap nat_cmp Look) (server tag k : ℕ) : Type 0 wher
 abbrev pub IsOut : FinMap nat_cmp Look → ℕ → ℕ → Option ℕ → Type 0
 IsOut m server tag (Some k) = IsOutFor m server tag k
 IsOut m server tag None = (k : ℕ) → IsOutFor m server tag k → ⊥
-
--- ---- packets
-
--- the packet is a call with this handle alone
-pub record HasOneHandle (packet : List ℕ) (h : Handle) : Type 0 where
-  pub first : handle_in packet (handle_span 0 packet) ≡ Some h
-  pub alone : handle_span 1 packet ≡ None
-  pub id : h.fileid < 2 ^ 46
 
 -- ---- what is claimed of a step
 
